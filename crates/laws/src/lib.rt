@@ -1,0 +1,1 @@
+// No code: definitions that several crates share stand in specs/, laws about them in proofs/.

@@ -1,0 +1,58 @@
+-- Document 01's table 'Refusals by number': the number of each refusal, and the values that its line names. Assumes nothing.
+use Prim.Native.Nat.{ℕ}
+use mathlib.Core.List.{List, [], _∷_}
+use Rattle.laws.specs.Said.{Said, refuses}
+use Rattle.refusal.specs.declared.Refusal.{Refusal}
+use Rattle.refusal.specs.declared.Refusal.the-variants.{
+  TooLong,
+  NonMinimal,
+  EarlyEnd,
+  NumberTooLong,
+  NumberNotMinimal,
+  NumberOutOfRange,
+  NoRoom,
+  BadCursor,
+  FeeTooLarge,
+  ProgramLength,
+  ProgramLengthV0,
+  BadVersion,
+  BadBuilder,
+}
+
+-- the longest script, in bytes
+abbrev pub limit : ℕ
+limit = 4194304
+
+abbrev pub numberOf : Refusal → ℕ
+numberOf TooLong = 1
+numberOf (NonMinimal place) = 2
+numberOf (EarlyEnd place) = 3
+numberOf NumberTooLong = 4
+numberOf NumberNotMinimal = 5
+numberOf NumberOutOfRange = 6
+numberOf (NoRoom needed) = 7
+numberOf BadCursor = 8
+numberOf FeeTooLarge = 9
+numberOf ProgramLength = 10
+numberOf ProgramLengthV0 = 11
+numberOf BadVersion = 12
+numberOf BadBuilder = 13
+
+abbrev pub valuesOf : Refusal → List ℕ
+valuesOf TooLong = []
+valuesOf (NonMinimal place) = place ∷ []
+valuesOf (EarlyEnd place) = place ∷ []
+valuesOf NumberTooLong = []
+valuesOf NumberNotMinimal = []
+valuesOf NumberOutOfRange = []
+valuesOf (NoRoom needed) = needed ∷ []
+valuesOf BadCursor = []
+valuesOf FeeTooLarge = []
+valuesOf ProgramLength = []
+valuesOf ProgramLengthV0 = []
+valuesOf BadVersion = []
+valuesOf BadBuilder = []
+
+-- a refusal, as an entry says it
+abbrev pub saidRefusal : {A : Type 0} → Refusal → Said A
+saidRefusal r = refuses (numberOf r) (valuesOf r)

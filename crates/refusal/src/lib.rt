@@ -1,0 +1,71 @@
+// The refusals of document 01, and the two answers that most entries give.
+ghost use mathlib.Core.Path.{_≡_};
+ghost use Rattle.refusal.specs.Refusal.{numberOf};
+
+// One variant for each line of document 01's table, holding that line's values. Nothing else in the code lists refusals.
+pub enum Refusal {
+    // 1: an input or a built script is longer than MAX_SCRIPT bytes.
+    TooLong,
+    // 2: minimal mode, and the push that starts at this place has a shorter form.
+    NonMinimal(usize),
+    // 3: the push that starts at this place is cut, in its length bytes or in its body.
+    EarlyEnd(usize),
+    // 4: a number to be read has too many bytes.
+    NumberTooLong,
+    // 5: the strict reader was given bytes that the writer would not write.
+    NumberNotMinimal,
+    // 6: -2^63 has no script number here.
+    NumberOutOfRange,
+    // 7: the lent output is shorter than this many bytes or entries.
+    NoRoom(usize),
+    // 8: the cursor stands past the script's end.
+    BadCursor,
+    // 9: the fee needs more than 64 bits.
+    FeeTooLarge,
+    // 10: a witness program has from 2 to 40 bytes.
+    ProgramLength,
+    // 11: a witness program of version 0 has 20 or 32 bytes.
+    ProgramLengthV0,
+    // 12: a witness version is at most 16.
+    BadVersion,
+    // 13: the builder does not fit its buffer.
+    BadBuilder,
+}
+
+// The longest script that is taken, in bytes.
+pub const MAX_SCRIPT: usize = 4_194_304;
+
+impl Refusal {
+    // The refusal's number in document 01.
+    pub fn number(self) -> u32
+        ensures { λ r. ⌜ r ≡ numberOf self ⌝ }
+    {
+        match self {
+            Refusal::TooLong => 1,
+            Refusal::NonMinimal(_) => 2,
+            Refusal::EarlyEnd(_) => 3,
+            Refusal::NumberTooLong => 4,
+            Refusal::NumberNotMinimal => 5,
+            Refusal::NumberOutOfRange => 6,
+            Refusal::NoRoom(_) => 7,
+            Refusal::BadCursor => 8,
+            Refusal::FeeTooLarge => 9,
+            Refusal::ProgramLength => 10,
+            Refusal::ProgramLengthV0 => 11,
+            Refusal::BadVersion => 12,
+            Refusal::BadBuilder => 13,
+        }
+    }
+}
+
+// A count: of bytes or entries that were written, of bytes that would be, of signature operations.
+pub enum Counted {
+    Count(usize),
+    Refused(Refusal),
+}
+
+// Yes or no.
+pub enum Judged {
+    Answer(bool),
+    Refused(Refusal),
+}
