@@ -1,3 +1,4 @@
 pub mod Test
 pub mod Settled
 pub mod Filled
+pub mod Table

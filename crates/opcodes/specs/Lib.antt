@@ -1,1 +1,3 @@
 pub mod Opcode
+pub mod Text
+pub mod Names

@@ -3,6 +3,16 @@ ghost use mathlib.Core.Path.{_≡_};
 ghost use Prim.Native.Nat.{_≤_};
 ghost use Rattle.opcodes.specs.Opcode.{sortOf, lengthBytes, saidClass, saidForm, numberOf, verifyOf, saidCode};
 
+pub mod names;
+
+pub use names::name_in;
+pub use names::name_len;
+pub use names::name_len_in;
+pub use names::name_lengths;
+pub use names::name_pool;
+pub use names::name_starts;
+pub use names::write_name;
+
 pub const OP_PUSHDATA1: u8 = 0x4c;
 
 pub const OP_PUSHDATA2: u8 = 0x4d;

@@ -1,0 +1,151 @@
+-- The name of each opcode, from document 01, module 1, 'Opcodes'. Assumes nothing.
+use mathlib.Core.List.{List, [], _∷_, _++_}
+use Prim.Native.Nat.{ℕ, zero, suc, _-_, min}
+use Prim.Native.String.{String}
+use lib.Dec.{ltb}
+use lib.ListN.{length, getD, take, drop}
+use Rattle.laws.specs.Choice.{if_then_else_}
+use Rattle.opcodes.specs.Text.{text, decimal}
+
+-- 0x4c to 0x50
+abbrev pub pushNames : List String
+pushNames =
+    "OP_PUSHDATA1" ∷
+    "OP_PUSHDATA2" ∷
+    "OP_PUSHDATA4" ∷
+    "OP_PUSHNUM_NEG1" ∷
+    "OP_RESERVED" ∷ []
+
+-- 0x61 to 0xba: Core's names in the order of script.h, with OP_CLTV (0xb1) and OP_CSV (0xb2) spelt as the crate spells them
+abbrev pub coreNames : List String
+coreNames =
+    "OP_NOP" ∷
+    "OP_VER" ∷
+    "OP_IF" ∷
+    "OP_NOTIF" ∷
+    "OP_VERIF" ∷
+    "OP_VERNOTIF" ∷
+    "OP_ELSE" ∷
+    "OP_ENDIF" ∷
+    "OP_VERIFY" ∷
+    "OP_RETURN" ∷
+    "OP_TOALTSTACK" ∷
+    "OP_FROMALTSTACK" ∷
+    "OP_2DROP" ∷
+    "OP_2DUP" ∷
+    "OP_3DUP" ∷
+    "OP_2OVER" ∷
+    "OP_2ROT" ∷
+    "OP_2SWAP" ∷
+    "OP_IFDUP" ∷
+    "OP_DEPTH" ∷
+    "OP_DROP" ∷
+    "OP_DUP" ∷
+    "OP_NIP" ∷
+    "OP_OVER" ∷
+    "OP_PICK" ∷
+    "OP_ROLL" ∷
+    "OP_ROT" ∷
+    "OP_SWAP" ∷
+    "OP_TUCK" ∷
+    "OP_CAT" ∷
+    "OP_SUBSTR" ∷
+    "OP_LEFT" ∷
+    "OP_RIGHT" ∷
+    "OP_SIZE" ∷
+    "OP_INVERT" ∷
+    "OP_AND" ∷
+    "OP_OR" ∷
+    "OP_XOR" ∷
+    "OP_EQUAL" ∷
+    "OP_EQUALVERIFY" ∷
+    "OP_RESERVED1" ∷
+    "OP_RESERVED2" ∷
+    "OP_1ADD" ∷
+    "OP_1SUB" ∷
+    "OP_2MUL" ∷
+    "OP_2DIV" ∷
+    "OP_NEGATE" ∷
+    "OP_ABS" ∷
+    "OP_NOT" ∷
+    "OP_0NOTEQUAL" ∷
+    "OP_ADD" ∷
+    "OP_SUB" ∷
+    "OP_MUL" ∷
+    "OP_DIV" ∷
+    "OP_MOD" ∷
+    "OP_LSHIFT" ∷
+    "OP_RSHIFT" ∷
+    "OP_BOOLAND" ∷
+    "OP_BOOLOR" ∷
+    "OP_NUMEQUAL" ∷
+    "OP_NUMEQUALVERIFY" ∷
+    "OP_NUMNOTEQUAL" ∷
+    "OP_LESSTHAN" ∷
+    "OP_GREATERTHAN" ∷
+    "OP_LESSTHANOREQUAL" ∷
+    "OP_GREATERTHANOREQUAL" ∷
+    "OP_MIN" ∷
+    "OP_MAX" ∷
+    "OP_WITHIN" ∷
+    "OP_RIPEMD160" ∷
+    "OP_SHA1" ∷
+    "OP_SHA256" ∷
+    "OP_HASH160" ∷
+    "OP_HASH256" ∷
+    "OP_CODESEPARATOR" ∷
+    "OP_CHECKSIG" ∷
+    "OP_CHECKSIGVERIFY" ∷
+    "OP_CHECKMULTISIG" ∷
+    "OP_CHECKMULTISIGVERIFY" ∷
+    "OP_NOP1" ∷
+    "OP_CLTV" ∷
+    "OP_CSV" ∷
+    "OP_NOP4" ∷
+    "OP_NOP5" ∷
+    "OP_NOP6" ∷
+    "OP_NOP7" ∷
+    "OP_NOP8" ∷
+    "OP_NOP9" ∷
+    "OP_NOP10" ∷
+    "OP_CHECKSIGADD" ∷ []
+
+-- the name of an opcode
+unfoldable pub nameOf : ℕ → List ℕ
+nameOf code =
+    if ltb code 0x4c then text "OP_PUSHBYTES_" ++ decimal code
+    else if ltb code 0x51 then text (getD pushNames (code - 0x4c) "")
+    else if ltb code 0x61 then text "OP_PUSHNUM_" ++ decimal (code - 0x50)
+    else if ltb code 0xbb then text (getD coreNames (code - 0x61) "")
+    else if ltb code 0xff then text "OP_RETURN_" ++ decimal code
+    else text "OP_INVALIDOPCODE"
+
+-- so many names, one after the other, from that of code on
+unfoldable pub namesFrom : ℕ → ℕ → List ℕ
+namesFrom zero code = []
+namesFrom (suc count) code = nameOf code ++ namesFrom count (suc code)
+
+-- the value of f at so many places, from that at i on
+abbrev pub table : (ℕ → ℕ) → ℕ → ℕ → List ℕ
+table f zero i = []
+table f (suc count) i = f i ∷ table f count (suc i)
+
+-- the pool: all 256 names, one after the other
+unfoldable pub poolOfNames : List ℕ
+poolOfNames = namesFrom 256 0
+
+-- where each name starts in the pool: behind all names before it
+unfoldable pub startsOfNames : List ℕ
+startsOfNames = table (λ code. length (namesFrom code 0)) 256 0
+
+-- how many bytes each name has
+unfoldable pub lengthsOfNames : List ℕ
+lengthsOfNames = table (λ code. length (nameOf code)) 256 0
+
+-- the part of a pool at which two tables place the name of an opcode
+unfoldable pub placed : List ℕ → List ℕ → List ℕ → ℕ → List ℕ
+placed pool starts lengths code = take (getD lengths code 0) (drop (getD starts code 0) pool)
+
+-- where that part starts
+unfoldable pub placeIn : List ℕ → List ℕ → ℕ → ℕ
+placeIn pool starts code = min (getD starts code 0) (length pool)
