@@ -1,3 +1,4 @@
 pub mod Same
 pub mod Settled
 pub mod Pooled
+pub mod Distinct

@@ -7,7 +7,7 @@ use lib.ListN.{length, getD, take, drop}
 use Rattle.laws.specs.Choice.{if_then_else_}
 use Rattle.opcodes.specs.Text.{text, decimal}
 
--- 0x4c to 0x50
+-- 0x4c to 0x50: the three length forms, OP_PUSHNUM_NEG1 (0x4f) and OP_RESERVED (0x50)
 abbrev pub pushNames : List String
 pushNames =
     "OP_PUSHDATA1" ∷
@@ -16,7 +16,7 @@ pushNames =
     "OP_PUSHNUM_NEG1" ∷
     "OP_RESERVED" ∷ []
 
--- 0x61 to 0xba: Core's names in the order of script.h, with OP_CLTV (0xb1) and OP_CSV (0xb2) spelt as the crate spells them
+-- 0x61 to 0xba, in the order of enum opcodetype of Core's script.h, with document 01's OP_CLTV (0xb1) and OP_CSV (0xb2)
 abbrev pub coreNames : List String
 coreNames =
     "OP_NOP" ∷
@@ -34,6 +34,7 @@ coreNames =
     "OP_2DROP" ∷
     "OP_2DUP" ∷
     "OP_3DUP" ∷
+    -- 0x70
     "OP_2OVER" ∷
     "OP_2ROT" ∷
     "OP_2SWAP" ∷
@@ -50,6 +51,7 @@ coreNames =
     "OP_TUCK" ∷
     "OP_CAT" ∷
     "OP_SUBSTR" ∷
+    -- 0x80
     "OP_LEFT" ∷
     "OP_RIGHT" ∷
     "OP_SIZE" ∷
@@ -66,6 +68,7 @@ coreNames =
     "OP_2MUL" ∷
     "OP_2DIV" ∷
     "OP_NEGATE" ∷
+    -- 0x90
     "OP_ABS" ∷
     "OP_NOT" ∷
     "OP_0NOTEQUAL" ∷
@@ -82,6 +85,7 @@ coreNames =
     "OP_NUMEQUALVERIFY" ∷
     "OP_NUMNOTEQUAL" ∷
     "OP_LESSTHAN" ∷
+    -- 0xa0
     "OP_GREATERTHAN" ∷
     "OP_LESSTHANOREQUAL" ∷
     "OP_GREATERTHANOREQUAL" ∷
@@ -98,6 +102,7 @@ coreNames =
     "OP_CHECKSIGVERIFY" ∷
     "OP_CHECKMULTISIG" ∷
     "OP_CHECKMULTISIGVERIFY" ∷
+    -- 0xb0
     "OP_NOP1" ∷
     "OP_CLTV" ∷
     "OP_CSV" ∷
@@ -110,7 +115,7 @@ coreNames =
     "OP_NOP10" ∷
     "OP_CHECKSIGADD" ∷ []
 
--- the name of an opcode
+-- the name of an opcode, as bytes
 unfoldable pub nameOf : ℕ → List ℕ
 nameOf code =
     if ltb code 0x4c then text "OP_PUSHBYTES_" ++ decimal code

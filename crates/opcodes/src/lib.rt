@@ -3,7 +3,7 @@ ghost use mathlib.Core.Path.{_≡_};
 ghost use Prim.Native.Nat.{_≤_};
 ghost use Rattle.opcodes.specs.Opcode.{sortOf, lengthBytes, saidClass, saidForm, numberOf, verifyOf, saidCode};
 
-pub mod names;
+mod names;
 
 pub use names::name_in;
 pub use names::name_len;

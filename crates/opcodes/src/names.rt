@@ -1,6 +1,6 @@
 // The opcode names: one pool of bytes, and by opcode where the name starts in it and how long it is.
 ghost use mathlib.Core.Path.{_≡_};
-ghost use Prim.Native.Nat.{_+_, min};
+ghost use Prim.Native.Nat.{_+_};
 ghost use lib.ListN.{length, getD};
 ghost use denote.Ref.{ptr};
 ghost use Rattle.laws.specs.Buffer.{writes, after};
@@ -9,7 +9,7 @@ ghost use Rattle.opcodes.specs.Names.{nameOf, poolOfNames, startsOfNames
 use refusal::Counted;
 use refusal::Refusal;
 
-// All names in the order of their opcodes.
+// All names, one after the other, in the order of their opcodes.
 const NAME_POOL: [u8; 3095] =
     *b"OP_PUSHBYTES_0OP_PUSHBYTES_1OP_PUSHBYTES_2OP_PUSHBYTES_3OP_PUSHBYTES_4OP_PUSHBYTES_5OP_PUSHBYTES_6\
 OP_PUSHBYTES_7OP_PUSHBYTES_8OP_PUSHBYTES_9OP_PUSHBYTES_10OP_PUSHBYTES_11OP_PUSHBYTES_12OP_PUSHBYTES_13\
@@ -42,6 +42,7 @@ OP_RETURN_235OP_RETURN_236OP_RETURN_237OP_RETURN_238OP_RETURN_239OP_RETURN_240OP
 OP_RETURN_243OP_RETURN_244OP_RETURN_245OP_RETURN_246OP_RETURN_247OP_RETURN_248OP_RETURN_249OP_RETURN_250\
 OP_RETURN_251OP_RETURN_252OP_RETURN_253OP_RETURN_254OP_INVALIDOPCODE";
 
+// Where each name starts in the pool.
 const NAME_STARTS: [u16; 256] = [
     0,
     14,
@@ -301,6 +302,7 @@ const NAME_STARTS: [u16; 256] = [
     3079,
 ];
 
+// How many bytes each name has.
 const NAME_LENGTHS: [u8; 256] = [
     14,
     14,
@@ -560,48 +562,50 @@ const NAME_LENGTHS: [u8; 256] = [
     16,
 ];
 
-// The pool. Who reads many names takes the three tables once and lends them to `name_in`.
+// The pool, to be lent: a constant is built anew wherever it is named, so who reads many names takes the three tables once.
 pub fn name_pool() -> [u8; 3095]
     ensures { λ r. ⌜ r ≡ poolOfNames ⌝ }
 {
     NAME_POOL
 }
 
-// Where each name starts in the pool.
+// The names' starts, to be lent.
 pub fn name_starts() -> [u16; 256]
     ensures { λ r. ⌜ r ≡ startsOfNames ⌝ }
 {
     NAME_STARTS
 }
 
-// How many bytes each name has.
+// The names' lengths, to be lent.
 pub fn name_lengths() -> [u8; 256]
     ensures { λ r. ⌜ r ≡ lengthsOfNames ⌝ }
 {
     NAME_LENGTHS
 }
 
+// A length, as a count.
 fn wide8(x: u8) -> usize
     ensures { λ r. ⌜ r ≡ x ⌝ }
 {
     x as usize
 }
 
+// A start, as a place.
 fn wide16(x: u16) -> usize
     ensures { λ r. ⌜ r ≡ x ⌝ }
 {
     x as usize
 }
 
-// How many bytes lent lengths give the name of an opcode.
+// How many bytes the name of an opcode has, by lent lengths.
 pub fn name_len_in(lengths: &[u8; 256], code: u8) -> usize
     ensures { λ r. ⌜ r ≡ getD (now (lengths .entry)) code 0 ⌝ }
 {
     wide8(lengths[code as usize])
 }
 
-// The part of a lent pool at which lent tables place the name of an opcode, as far as the pool reaches. Over the three tables above it is
-// the name.
+// The name of an opcode as a part of the lent pool: so many bytes from its start on as the lent tables say, or as many of them as the
+// pool has.
 pub fn name_in<'a>(pool: &'a [u8], starts: &[u16; 256], lengths: &[u8; 256], code: u8) -> &'a [u8]
     ensures bytes { λ r. ⌜ now r ≡ placed (now (pool .entry)) (now (starts .entry)) (now (lengths .entry)) code ⌝ }
     ensures place { λ r. ⌜ ptr r ≡ (ptr (pool .entry) .0, placeIn (now (pool .entry)) (now (starts .entry)) code + ptr (pool .entry) .1) ⌝ }

@@ -1,16 +1,13 @@
 -- `opcodes::names::write_bytes` meets its contract: the buffer fills from its front, and the room was tested before the first byte. Assumes nothing.
-use mathlib.Core.Path.{_≡_, refl, ap, sym, _∙_}
+use mathlib.Core.Path.{_≡_, refl, ap, _∙_}
 use Prim.Native.Nat.{_≤_, _-_}
 use native.Mathlib.Omega.{arith}
-use borrow.Author.Needs.{needs}
 use borrow.Author.Tests.{le-leb, lt-leb}
 use lib.ListN.{length}
 use Rattle.laws.specs.Said.{answers}
 use Rattle.laws.proofs.Filled.{filled, fill-put, fill-length, fill-done}
 use Rattle.opcodes.proofs.names.write_bytes.Statement.{statement}
 use Rattle.opcodes.proofs.names.write_bytes.Tie as tie
-use Rattle.opcodes.proofs.names.write_bytes.Reads as reads
-use Rattle.opcodes.proofs.names.write_bytes.Lts as lts
 
 abbrev Inv-loop : tie.InvT-loop
 Inv-loop bytes out₀ i₀ out i = (i ≤ length bytes) × (length bytes ≤ length out₀) × (out ≡ filled bytes i out₀)

@@ -9,9 +9,10 @@ returns c =
     let n = c .before .before .before .before in
     let l = n .before .before .before .before in
     let s = l .before .before .before .before in
-    rw
-      ( ← name-at (s .args .code) (l .before .before .name-pool .ensures) (l .before .name-starts .ensures) (l .name-lengths .ensures) (s .fits .code .fits)
-      , ← n .name-in .ensures .0)
+    rw (
+      ← name-at (s .args .code) (l .before .before .name-pool .ensures) (l .before .name-starts .ensures) (l .name-lengths .ensures) (s .fits .code .fits),
+      ← n .name-in .ensures .0,
+    )
     (c .before .before .write-bytes .ensures)
 
 pub write-name-spec : {M : Type 1} → statement M
