@@ -1,0 +1,3 @@
+pub mod Little
+pub mod Minimal
+pub mod Step
