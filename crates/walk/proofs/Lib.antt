@@ -1,3 +1,4 @@
 pub mod Little
 pub mod Minimal
 pub mod Step
+pub mod Good

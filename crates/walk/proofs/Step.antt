@@ -100,17 +100,17 @@ same-test n p k h =
     (lt-or-le n (p + k))
 
 module _ (s : List ℕ) (at : ℕ) (h : at < length s) where
-  opcode-read : 78 < getD s at 0 → getScriptOp s at ≡ reads (getD s at 0) [] (at + 1)
+  pub opcode-read : 78 < getD s at 0 → getScriptOp s at ≡ reads (getD s at 0) [] (at + 1)
   unfolding getScriptOp operand
   opcode-read o = simp (lt-leb (length s) at h, lt-leb _ _ o)
 
   -- after the length bytes, where they are there
-  abbrev readBody : PushForm → ScriptOp
+  abbrev pub readBody : PushForm → ScriptOp
   readBody form =
       if ltb (length s) (at + 1 + lengthBytes form) then fails
       else assign (getD s at 0) (stated (lengthBytes form) s at) s (at + 1 + lengthBytes form)
 
-  push-read : (form : PushForm) → IsOf form (getD s at 0) → getScriptOp s at ≡ readBody form
+  pub push-read : (form : PushForm) → IsOf form (getD s at 0) → getScriptOp s at ≡ readBody form
   unfolding getScriptOp operand sized stated
   push-read direct o =
       simp (lt-leb (length s) at h, le-leb (getD s at 0) 78 (omega arith), lt-ltb _ _ o, add-zero, le-ltb (length s) (at + 1) (omega arith))
