@@ -2,3 +2,5 @@ pub mod Little
 pub mod Minimal
 pub mod Step
 pub mod Good
+pub mod Run
+pub mod Places

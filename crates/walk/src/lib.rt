@@ -1,12 +1,15 @@
 // The walk over a script: one instruction at a time, each call given the cursor that the one before gave back.
 use opcodes::Class;
 use opcodes::Form;
+use refusal::Counted;
 use refusal::Refusal;
 ghost use mathlib.Core.Path.{_≡_};
 ghost use Prim.Native.Nat.{_+_, _≤_, _<_};
 ghost use lib.ListN.{length, getD};
 ghost use Rattle.opcodes.specs.Opcode.{sortOf, push, saidForm, lengthBytes};
 ghost use Rattle.refusal.specs.Refusal.{limit};
+ghost use Rattle.refusal.specs.Answer.{saidCount};
+ghost use Rattle.walk.specs.Places.{countSays};
 ghost use Rattle.walk.specs.Script.{readLE};
 ghost use Rattle.walk.specs.Walk.{walkSays, nextAt};
 ghost use Rattle.walk.specs.Answer.{saidFound, isMinimal};
@@ -199,5 +202,38 @@ fn opcode_at(at: usize, code: u8) -> Stepped
     Stepped {
         found: Found::Opcode { place: at, code },
         next: Cursor { at: at + 1 },
+    }
+}
+
+// How many instructions a script has to its end, or why the walk does not reach it.
+fn count(script: &[u8], mode: Mode) -> Counted
+    ensures { λ r. ⌜ saidCount r ≡ countSays (isMinimal mode) (now (script .entry)) ⌝ }
+{
+    let mut c = Cursor { at: 0 };
+    let mut n: usize = 0;
+    loop {
+        let stepped = c.next(script, mode);
+        let found = stepped.found;
+        match found {
+            Found::End => {
+                return Counted::Count(n);
+            }
+            Found::Opcode { place: _, code: _ } => {
+                n += 1;
+                c = stepped.next;
+            }
+            Found::Push {
+                place: _,
+                form: _,
+                body: _,
+                len: _,
+            } => {
+                n += 1;
+                c = stepped.next;
+            }
+            Found::Refused(why) => {
+                return Counted::Refused(why);
+            }
+        }
     }
 }
