@@ -74,3 +74,9 @@ module _ (minimal : Bool) (s : List ℕ) (p : ℕ) {r : Stepped} {f : Found}
 
   pub moves-at : Moved s p (r .next .at) (saidFound f)
   moves-at = moves minimal s p (ap saidFound (sym is) ∙ met .0) (met .1)
+
+  pub says-at : walkSays minimal s p ≡ saidFound f
+  says-at = sym (met .0) ∙ ap saidFound is
+
+  pub good-at : Good minimal s p (saidFound f)
+  good-at = good-answer minimal s p (saidFound f) says-at

@@ -1,12 +1,16 @@
 -- What the private steps of the code compute. No public contract cites these. Assumes nothing.
 use mathlib.Core.Bool.{Bool, true, false, _&&_}
 use mathlib.Core.List.{List}
-use Prim.Native.Nat.{ℕ, _+_}
+use mathlib.Core.Path.{_≡_}
+use Prim.Native.Nat.{ℕ, _+_, _≤_}
 use lib.Dec.{ltb, eqb}
 use lib.ListN.{length, getD}
 use Rattle.laws.specs.Choice.{if_then_else_}
 use Rattle.opcodes.specs.Opcode.{PushForm, direct, pushdata1, pushdata2, pushdata4}
+use Rattle.laws.specs.Said.{Said}
 use Rattle.walk.specs.Script.{readLE}
+use Rattle.walk.specs.Walk.{Walked}
+use Rattle.walk.specs.Part.{bodyPlace, bodyLen}
 
 -- the body length that a push states: its opcode where there are no length bytes
 unfoldable pub stated : ℕ → List ℕ → ℕ → ℕ
@@ -30,3 +34,9 @@ shortForm pushdata4 s body len = ltb len 0x10000
 
 unfoldable pub tooShort : Bool → PushForm → List ℕ → ℕ → ℕ → Bool
 tooShort minimal form s body len = minimal && shortForm form s body len
+
+-- where a body starts and ends, within a script of so many bytes
+pub record Spans (a : Said Walked) (size start end : ℕ) : Type 0 where
+  pub first : start ≡ bodyPlace a
+  pub last : end ≡ bodyPlace a + bodyLen a
+  pub fits : end ≤ size

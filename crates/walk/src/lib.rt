@@ -9,11 +9,14 @@ ghost use lib.ListN.{length, getD};
 ghost use Rattle.opcodes.specs.Opcode.{sortOf, push, saidForm, lengthBytes};
 ghost use Rattle.refusal.specs.Refusal.{limit};
 ghost use Rattle.refusal.specs.Answer.{saidCount};
-ghost use Rattle.walk.specs.Places.{countSays};
+ghost use Rattle.walk.specs.Places.{countSays, placesOf, positionsSay};
+ghost use Rattle.walk.specs.Part.{Part, bodyPlace, bodyLen};
 ghost use Rattle.walk.specs.Script.{readLE};
 ghost use Rattle.walk.specs.Walk.{walkSays, nextAt};
 ghost use Rattle.walk.specs.Answer.{saidFound, isMinimal};
-ghost use Rattle.walk.specs.Steps.{stated, isNumber, tooShort};
+ghost use Rattle.walk.specs.Steps.{stated, isNumber, tooShort, Spans};
+ghost use Rattle.laws.specs.Buffer.{after};
+ghost use lib.Seq.{sets};
 
 // Plain takes every whole push; Minimal refuses a push that has a shorter form.
 pub enum Mode {
@@ -236,4 +239,96 @@ fn count(script: &[u8], mode: Mode) -> Counted
             }
         }
     }
+}
+
+// The places of all instructions, from the front of a table that has room for them.
+fn write_places(script: &[u8], mode: Mode, table: &mut [u32])
+    requires { ⌜ length (placesOf (isMinimal mode) (now script)) ≤ length (now table) ⌝ }
+    ensures { λ _. ⌜ now (table .exit) ≡ sets (now (table .entry)) 0 (placesOf (isMinimal mode) (now (script .entry))) ⌝ }
+{
+    let mut c = Cursor { at: 0 };
+    let mut i: usize = 0;
+    loop {
+        let stepped = c.next(script, mode);
+        let found = stepped.found;
+        match found {
+            Found::End => {
+                return;
+            }
+            Found::Opcode { place, code: _ } => {
+                table[i] = place as u32;
+                i += 1;
+                c = stepped.next;
+            }
+            Found::Push {
+                place,
+                form: _,
+                body: _,
+                len: _,
+            } => {
+                table[i] = place as u32;
+                i += 1;
+                c = stepped.next;
+            }
+            Found::Refused(_) => {
+                return;
+            }
+        }
+    }
+}
+
+// The start places of all instructions of a script, written from the table's front, and how many there are. Refused with 1, 2 or 3 where the
+// walk is, and with 7 and the entries needed where the table is short; a refused call leaves the table.
+pub fn positions(script: &[u8], mode: Mode, table: &mut [u32]) -> Counted
+    ensures { λ r. ⌜ (saidCount r ≡ positionsSay (isMinimal mode) (now (script .entry)) (length (now (table .entry)))) × (now (table .exit) ≡ after (positionsSay (isMinimal mode) (now (script .entry)) (length (now (table .entry)))) (placesOf (isMinimal mode) (now (script .entry))) (now (table .entry))) ⌝ }
+{
+    let counted = count(script, mode);
+    match counted {
+        Counted::Refused(why) => Counted::Refused(why),
+        Counted::Count(n) => {
+            if table.len() < n {
+                return Counted::Refused(Refusal::NoRoom(n));
+            }
+            write_places(script, mode, table);
+            Counted::Count(n)
+        }
+    }
+}
+
+// Where a part lies.
+struct Span {
+    start: usize,
+    end: usize,
+}
+
+// Where the body of the push at the cursor lies; nothing at the front where there is none.
+fn body_span(script: &[u8], cursor: Cursor, mode: Mode) -> Span
+    ensures { λ r. ⌜ Spans (walkSays (isMinimal mode) (now (script .entry)) (cursor .at)) (length (now (script .entry))) (r .start) (r .end) ⌝ }
+{
+    let stepped = cursor.next(script, mode);
+    let found = stepped.found;
+    match found {
+        Found::Push {
+            place: _,
+            form: _,
+            body,
+            len,
+        } => Span {
+            start: body,
+            end: body + len,
+        },
+        Found::End => Span { start: 0, end: 0 },
+        Found::Opcode { place: _, code: _ } => Span { start: 0, end: 0 },
+        Found::Refused(_) => Span { start: 0, end: 0 },
+    }
+}
+
+// The body of the push at the cursor, as a part of the caller's own script; an empty part where the walk gives no push there.
+pub fn body<'a>(script: &'a [u8], cursor: Cursor, mode: Mode) -> &'a [u8]
+    ensures { λ r. ⌜ Part r (script .entry) (bodyPlace (walkSays (isMinimal mode) (now (script .entry)) (cursor .at))) (bodyLen (walkSays (isMinimal mode) (now (script .entry)) (cursor .at))) ⌝ }
+{
+    let span = body_span(script, cursor, mode);
+    let start = span.start;
+    let end = span.end;
+    &script[start..end]
 }
