@@ -4,3 +4,4 @@ pub mod Step
 pub mod Good
 pub mod Run
 pub mod Places
+pub mod Settled
