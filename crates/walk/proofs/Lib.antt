@@ -2,3 +2,8 @@ pub mod Little
 pub mod Minimal
 pub mod Step
 pub mod Good
+pub mod Encoding
+pub mod Reading
+pub mod Exactly
+pub mod Handed
+pub mod Core
