@@ -1,6 +1,6 @@
 -- The calls one after the other: each hands out the bytes at its position and moves past them, so that what was handed out is the script's
 -- own beginning. Assumes nothing.
-use mathlib.Core.Path.{_≡_, refl, sym, ap, ap₂, _∙_, subst}
+use mathlib.Core.Path.{_≡_, refl, sym, ap, ap₂, _∙_}
 use mathlib.Core.Logic.{_⊎_, inl, inr, ⊎-elim}
 use mathlib.Core.Bool.{Bool, true}
 use mathlib.Core.List.{List, [], _∷_, _++_, append-nil, append-assoc}
@@ -9,15 +9,15 @@ use native.Mathlib.Nat.{add-zero}
 use native.Mathlib.Omega.{arith}
 use lib.ListN.{length, take, drop}
 use lib.Seq.{take-add}
-use Rattle.laws.specs.Said.{Said, answers, refuses}
+use Rattle.laws.specs.Said.{answers, refuses}
 use Rattle.laws.proofs.Test.{lt-or-le}
 use Rattle.refusal.specs.Refusal.{limit}
 use Rattle.walk.specs.Walk.{end, walkSays, nextAt}
-use Rattle.walk.specs.Instruction.{Instruction, opcode, push, Bytes, Stands, encode, encodeAll, size, sizes, allowed, StandsAt, Each}
+use Rattle.walk.specs.Instruction.{Instruction, Bytes, Stands, encodeAll, sizes, allowed, Each}
 use Rattle.walk.specs.Calls.{position, call, given, handed, Taken, NoRefusal}
 use Rattle.walk.proofs.Step.{at-end}
-use Rattle.walk.proofs.Encoding.{size-is, Laid, bytes-laid, laid-bytes}
-use Rattle.walk.proofs.Exactly.{Says, says-end, hands, refused, says, standing-given, standing-next, refusal-is}
+use Rattle.walk.proofs.Encoding.{size-is, bytes-laid, laid-bytes}
+use Rattle.walk.proofs.Exactly.{Says, says-end, hands, refused, says, refusal-is}
 
 sizes-append : (xs ys : List Instruction) → sizes (xs ++ ys) ≡ sizes xs + sizes ys
 unfolding sizes
@@ -46,11 +46,10 @@ module _ (minimal : Bool) (s : List ℕ) (l : length s ≤ limit) (bytes : Bytes
     where
       go : Says minimal s l at → (nextAt minimal s at ≡ length s) ⊎ ((at < nextAt minimal s at) × (nextAt minimal s at ≤ length s))
       go (says-end e) = inl (end-next at e ∙ e)
-      go (hands i a) =
-          let n = standing-next minimal s l at i a in
+      go (hands i a g n) =
           let f = bytes-laid s at i (a .bytes) in
           inr (omega (arith, size-is i), omega (arith, f .fits))
-      go (refused number k h r) = inl (refusal-is minimal s l at bytes w number (at ∷ []) r .2)
+      go (refused number values r) = inl (refusal-is minimal s l at bytes w number values r .2)
 
   -- what a call hands out are the bytes that it moves past
   record Kept (at : ℕ) (xs : List Instruction) : Type 0 where
@@ -63,21 +62,21 @@ module _ (minimal : Bool) (s : List ℕ) (l : length s ≤ limit) (bytes : Bytes
     where
       go : Says minimal s l at → Kept at (given s (walkSays minimal s at))
       go (says-end e) = rw (at-end minimal s at l (sym e)) (record { next = omega (arith, end-next at e); same = refl })
-      go (hands i a) =
-          rw (standing-given minimal s l at i a)
+      go (hands i a g n) =
+          rw g
           (record {
-            next = omega (arith, standing-next minimal s l at i a);
-            same = rw (append-nil, add-zero) (sym (laid-bytes s at i (bytes-laid s at i (a .bytes))))
+            next = omega arith;
+            same = rw (append-nil, add-zero) (sym (laid-bytes s at i (bytes-laid s at i (a .bytes))));
           })
-      go (refused number k h r) = absurd (rw r at t)
+      go (refused number values r) = absurd (rw r at t)
 
   takes : (at : ℕ) → at ≤ length s → Each (λ i. Stands i × (allowed minimal i ≡ true)) (given s (walkSays minimal s at))
   takes at w = go (says minimal s l at bytes w)
     where
       go : Says minimal s l at → Each (λ i. Stands i × (allowed minimal i ≡ true)) (given s (walkSays minimal s at))
       go (says-end e) = rw (at-end minimal s at l (sym e)) tt
-      go (hands i a) = rw (standing-given minimal s l at i a) ((a .stands, a .taken), tt)
-      go (refused number k h r) = rw r tt
+      go (hands i a g n) = rw g ((a .stands, a .taken), tt)
+      go (refused number values r) = rw r tt
 
   -- ---- the calls
 
