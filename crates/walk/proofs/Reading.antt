@@ -1,4 +1,4 @@
--- GetScriptOp reads an instruction exactly where its bytes stand, so that bytes have one reading. Assumes nothing.
+-- Where the bytes of an instruction stand, GetScriptOp reads that instruction, so that bytes have one reading. Assumes nothing.
 use mathlib.Core.Path.{_≡_, refl, sym, ap, ap₂, _∙_, subst}
 use mathlib.Core.List.{List, [], _∷_, _++_, append-cancel-left}
 use Prim.Native.Nat.{ℕ, _+_, _-_, _≤_}
