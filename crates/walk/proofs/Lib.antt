@@ -5,3 +5,8 @@ pub mod Good
 pub mod Run
 pub mod Places
 pub mod Settled
+pub mod Encoding
+pub mod Reading
+pub mod Exactly
+pub mod Handed
+pub mod Core

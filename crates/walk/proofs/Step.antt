@@ -61,7 +61,7 @@ module _ (minimal : Bool) (s : List ℕ) (at : ℕ) where
 -- ---- what the sort of an opcode says of its number
 
 -- both ways of each test of `sortOf`
-by-sort : (b : ℕ) (P : Sort → Type 0)
+pub by-sort : (b : ℕ) (P : Sort → Type 0)
     → (b < 76 → P (sort.push direct)) → (b ≡ 76 → P (sort.push pushdata1)) → (b ≡ 77 → P (sort.push pushdata2)) → (b ≡ 78 → P (sort.push pushdata4))
     → (78 < b → P sort.plain) → (78 < b → P sort.number) → P (sortOf b)
 by-sort b P d p q r o n =
@@ -194,7 +194,7 @@ module _ (s : List ℕ) (at : ℕ) (form : PushForm) (k : sortOf (getD s at 0) �
   stated-direct pushdata4 e = cc
 
   -- no form states more than it can
-  stated-most : Bytes s → (f : PushForm) → IsOf f (getD s at 0) → stated (lengthBytes f) s at ≤ most f
+  pub stated-most : Bytes s → (f : PushForm) → IsOf f (getD s at 0) → stated (lengthBytes f) s at ≤ most f
   unfolding stated
   stated-most b direct o = omega arith
   stated-most b pushdata1 o = omega (arith, le-below s b 1 (at + 1))

@@ -1,4 +1,5 @@
 -- Calls one after the other: a cursor from position 0, each call given the cursor that the one before gave back. Assumes nothing.
+use mathlib.Core.Path.{_≡_}
 use mathlib.Core.Bool.{Bool}
 use mathlib.Core.List.{List, [], _∷_, _++_}
 use Prim.Native.Nat.{ℕ, zero, suc, _<_}
@@ -6,7 +7,7 @@ use lib.ListN.{take, drop}
 use Rattle.laws.specs.Said.{Said, answers, refuses}
 use Rattle.walk.specs.Walk.{Walked, end, walkSays, nextAt}
 use Rattle.walk.specs.Walk as walk
-use Rattle.walk.specs.Instruction.{Instruction, opcode, push}
+use Rattle.walk.specs.Instruction.{Instruction, opcode, push, codeOf, dataOf}
 
 -- the position after n calls
 unfoldable pub position : Bool → List ℕ → ℕ → ℕ
@@ -37,3 +38,11 @@ Taken (refuses number values) = ⊥
 -- none of the first n calls is refused
 abbrev pub NoRefusal : Bool → List ℕ → ℕ → Type 0
 NoRefusal minimal s n = (i : ℕ) → i < n → Taken (call minimal s i)
+
+-- the call at a position hands out an instruction with this opcode and this data, and its cursor then stands at pc
+pub record HandsOut (minimal : Bool) (s : List ℕ) (at code : ℕ) (vch : List ℕ) (pc : ℕ) : Type 0 where
+  pub i : Instruction
+  pub hands : given s (walkSays minimal s at) ≡ i ∷ []
+  pub code-is : codeOf i ≡ code
+  pub data-is : dataOf i ≡ vch
+  pub next : nextAt minimal s at ≡ pc

@@ -1,9 +1,10 @@
 -- Instructions and their bytes, from document 01, 'The walk'. Assumes nothing.
+use mathlib.Core.Path.{_≡_}
 use mathlib.Core.Bool.{Bool, true, false, not, _&&_, _||_}
 use mathlib.Core.List.{List, [], _∷_, _++_}
 use Prim.Native.Nat.{ℕ, zero, suc, _+_, _/_, _%_, _≤_, _<_}
 use lib.Dec.{ltb, leb, eqb}
-use lib.ListN.{length, getD}
+use lib.ListN.{length, getD, take, drop}
 use Rattle.laws.specs.Choice.{if_then_else_}
 use Rattle.opcodes.specs.Opcode.{PushForm, direct, pushdata1, pushdata2, pushdata4, lengthBytes}
 
@@ -68,3 +69,23 @@ wasteful (push pushdata4 body) = ltb (length body) 0x10000
 -- what a mode takes
 abbrev pub allowed : Bool → Instruction → Bool
 allowed minimal i = not (minimal && wasteful i)
+
+-- GetScriptOp's opcodeRet and *pvchRet for an instruction
+abbrev pub codeOf : Instruction → ℕ
+codeOf (opcode code) = code
+codeOf (push form body) = opcodeOf form (length body)
+
+abbrev pub dataOf : Instruction → List ℕ
+dataOf (opcode code) = []
+dataOf (push form body) = body
+
+-- an instruction that a mode takes, and whose bytes stand whole at a position of a script
+pub record StandsAt (minimal : Bool) (s : List ℕ) (at : ℕ) (i : Instruction) : Type 0 where
+  pub stands : Stands i
+  pub taken : allowed minimal i ≡ true
+  pub bytes : take (length (encode i)) (drop at s) ≡ encode i
+
+-- each instruction of a list
+abbrev pub Each : (Instruction → Type 0) → List Instruction → Type 0
+Each P [] = Unit {0}
+Each P (i ∷ is) = P i × Each P is
