@@ -1,0 +1,12 @@
+pub mod Little
+pub mod Minimal
+pub mod Step
+pub mod Good
+pub mod Run
+pub mod Places
+pub mod Settled
+pub mod Encoding
+pub mod Reading
+pub mod Exactly
+pub mod Handed
+pub mod Core

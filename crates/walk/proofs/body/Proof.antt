@@ -1,0 +1,19 @@
+-- `walk::body` meets its contract: the span says which part it is. Assumes nothing.
+use mathlib.Core.Path.{_≡_}
+use Prim.Native.Nat.{_-_}
+use native.Mathlib.Omega.{arith}
+use borrow.Author.Needs.{needs}
+use Rattle.walk.specs.Part.{bodyLen}
+use Rattle.walk.proofs.Places.{span-len}
+use Rattle.walk.proofs.body.Statement.{statement}
+use Rattle.walk.proofs.body.Tie as tie
+
+returns : tie.Need-returns
+returns c =
+    let g = c .before .body-span .ensures in
+    let e = span-len g in
+    record { bytes = cc; lies = cc }
+
+pub body-spec : {M : Type 1} → statement M
+body-spec =
+    tie.close (tie.spec (λ c κs. search needs) (λ c. search needs) (λ c. search needs) (λ c. search needs) returns)

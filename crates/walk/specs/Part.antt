@@ -1,0 +1,26 @@
+-- A part of a slice that is handed back: its bytes, and that it is the caller's own memory and no copy. Assumes nothing.
+use mathlib.Core.Path.{_≡_}
+use mathlib.Core.List.{List}
+use Prim.Native.Nat.{ℕ, _+_}
+use lib.ListN.{take, drop}
+use denote.Ref.{RefT, ptr, now}
+use Rattle.laws.specs.Said.{Said, answers, refuses}
+use Rattle.walk.specs.Walk.{Walked, end, opcode, push}
+
+-- the n bytes of s from b on, where they lie
+pub record Part (r s : RefT (List ℕ)) (b n : ℕ) : Type 0 where
+  pub bytes : now r ≡ take n (drop b (now s))
+  pub lies : ptr r ≡ (ptr s .0, b + ptr s .1)
+
+-- a push's body; for all else the empty part at the script's front
+abbrev pub bodyPlace : Said Walked → ℕ
+bodyPlace (answers end) = 0
+bodyPlace (answers (opcode place code)) = 0
+bodyPlace (answers (push place form body len)) = body
+bodyPlace (refuses number values) = 0
+
+abbrev pub bodyLen : Said Walked → ℕ
+bodyLen (answers end) = 0
+bodyLen (answers (opcode place code)) = 0
+bodyLen (answers (push place form body len)) = len
+bodyLen (refuses number values) = 0
