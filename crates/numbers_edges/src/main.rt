@@ -88,12 +88,16 @@ fn len_line(n: i64) {
     text(b"\n");
 }
 
-fn write_into(n: i64, out: &mut [u8]) {
+fn write_heading(n: i64, room: usize) {
     text(b"write ");
     signed(n);
     text(b" room ");
-    decimal(out.len() as u64);
+    decimal(room as u64);
     text(b":");
+}
+
+fn write_into(n: i64, out: &mut [u8]) {
+    write_heading(n, out.len());
     counted(numbers::write_scriptint(n, out));
     text(b" buffer");
     hex(out);
