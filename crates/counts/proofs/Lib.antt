@@ -1,0 +1,4 @@
+pub mod Weight
+pub mod Turns
+pub mod Settled
+pub mod Examples

@@ -1,0 +1,69 @@
+-- How Bitcoin Core 25.0 counts signature operations: CScript::GetSigOpCount of script/script.cpp. Assumes nothing.
+use mathlib.Core.Bool.{Bool, _&&_, _||_}
+use mathlib.Core.List.{List, []}
+use Prim.Native.Nat.{ℕ, zero, suc, _+_, _-_}
+use lib.Dec.{ltb, leb, eqb}
+use lib.ListN.{length}
+use Rattle.laws.specs.Choice.{if_then_else_}
+use Rattle.laws.specs.Said.{Said, answers, refuses}
+use Rattle.refusal.specs.Refusal.{limit}
+use Rattle.walk.specs.Script.{OP-0, ScriptOp, fails, reads, getScriptOp}
+
+abbrev pub OP-1 : ℕ
+OP-1 = 0x51
+
+abbrev pub OP-16 : ℕ
+OP-16 = 0x60
+
+abbrev pub OP-CHECKSIG : ℕ
+OP-CHECKSIG = 0xac
+
+abbrev pub OP-CHECKSIGVERIFY : ℕ
+OP-CHECKSIGVERIFY = 0xad
+
+abbrev pub OP-CHECKMULTISIG : ℕ
+OP-CHECKMULTISIG = 0xae
+
+abbrev pub OP-CHECKMULTISIGVERIFY : ℕ
+OP-CHECKMULTISIGVERIFY = 0xaf
+
+abbrev pub OP-INVALIDOPCODE : ℕ
+OP-INVALIDOPCODE = 0xff
+
+abbrev pub MAX-PUBKEYS-PER-MULTISIG : ℕ
+MAX-PUBKEYS-PER-MULTISIG = 20
+
+-- CScript::DecodeOP_N of script/script.h
+abbrev pub decodeOP-N : ℕ → ℕ
+decodeOP-N opcode = if eqb opcode OP-0 then 0 else opcode - (OP-1 - 1)
+
+-- if (fAccurate && lastOpcode >= OP_1 && lastOpcode <= OP_16) n += DecodeOP_N(lastOpcode); else n += MAX_PUBKEYS_PER_MULTISIG;
+unfoldable pub multisigOps : Bool → ℕ → ℕ
+multisigOps fAccurate lastOpcode =
+    if fAccurate && (leb OP-1 lastOpcode && leb lastOpcode OP-16) then decodeOP-N lastOpcode else MAX-PUBKEYS-PER-MULTISIG
+
+-- what the opcode that was read adds to n
+unfoldable pub sigOps : Bool → ℕ → ℕ → ℕ
+sigOps fAccurate lastOpcode opcode =
+    if eqb opcode OP-CHECKSIG || eqb opcode OP-CHECKSIGVERIFY then 1
+    else if eqb opcode OP-CHECKMULTISIG || eqb opcode OP-CHECKMULTISIGVERIFY then multisigOps fAccurate lastOpcode
+    else 0
+
+-- if (!GetOp(pc, opcode)) break; n += ..; lastOpcode = opcode;
+abbrev pub turn : Bool → ℕ → ℕ → ScriptOp → (ℕ → ℕ → ℕ → ℕ) → ℕ
+turn fAccurate n lastOpcode fails again = n
+turn fAccurate n lastOpcode (reads opcode vch pc) again = again pc (n + sigOps fAccurate lastOpcode opcode) opcode
+
+-- while (pc < end()), for so many turns
+unfoldable pub while : ℕ → Bool → List ℕ → ℕ → ℕ → ℕ → ℕ
+while zero fAccurate s pc n lastOpcode = n
+while (suc turns) fAccurate s pc n lastOpcode =
+    if ltb pc (length s) then turn fAccurate n lastOpcode (getScriptOp s pc) (while turns fAccurate s) else n
+
+-- GetSigOpCount; each turn reads a byte at least, so the script has bytes for all of them
+unfoldable pub getSigOpCount : Bool → List ℕ → ℕ
+getSigOpCount fAccurate s = while (length s) fAccurate s 0 0 OP-INVALIDOPCODE
+
+-- document 01, 'Counts and dust': refusal 1, else the count
+unfoldable pub countSays : Bool → List ℕ → Said ℕ
+countSays fAccurate s = if ltb limit (length s) then refuses 1 [] else answers (getSigOpCount fAccurate s)
