@@ -1,0 +1,36 @@
+-- A witness program as a script: BIP 141, 'Witness program', and document 01, 'Witness program'. Assumes nothing.
+use mathlib.Core.Bool.{Bool, not, _&&_, _||_}
+use mathlib.Core.List.{List, [], _∷_}
+use Prim.Native.Nat.{ℕ, _+_, _-_}
+use lib.Dec.{ltb, eqb}
+use lib.ListN.{length, getD, drop}
+use Rattle.laws.specs.Choice.{if_then_else_}
+use Rattle.laws.specs.Said.{Said, refuses}
+use Rattle.laws.specs.Buffer.{writes}
+
+-- 'version byte 0 or 0x50 + version'
+abbrev pub versionByte : ℕ → ℕ
+versionByte version = if eqb version 0 then 0 else 0x50 + version
+
+-- 'version byte 0 or 0x50 + version, length, program'
+unfoldable pub witnessBytes : ℕ → List ℕ → List ℕ
+witnessBytes version program = versionByte version ∷ length program ∷ program
+
+-- BIP 141: version 0 has a program of 20 or of 32 bytes
+abbrev pub wrongV0 : ℕ → ℕ → Bool
+wrongV0 version len = eqb version 0 && not (eqb len 20 || eqb len 32)
+
+-- 'Refusals by number': 12, 10, 11, and 7 last
+unfoldable pub witnessSays : ℕ → List ℕ → ℕ → Said ℕ
+witnessSays version program room =
+    if ltb 16 version then refuses 12 []
+    else if ltb (length program) 2 || ltb 40 (length program) then refuses 10 []
+    else if wrongV0 version (length program) then refuses 11 []
+    else writes (witnessBytes version program) room
+
+-- what is read of a witness script: the version that its first byte states, and the bytes after the length
+abbrev pub versionOf : List ℕ → ℕ
+versionOf s = if eqb (getD s 0 0) 0 then 0 else getD s 0 0 - 0x50
+
+abbrev pub programOf : List ℕ → List ℕ
+programOf s = drop 2 s
