@@ -38,29 +38,29 @@ abbrev pub decodeOP-N : ℕ → ℕ
 decodeOP-N opcode = if eqb opcode OP-0 then 0 else opcode - (OP-1 - 1)
 
 -- if (fAccurate && lastOpcode >= OP_1 && lastOpcode <= OP_16) n += DecodeOP_N(lastOpcode); else n += MAX_PUBKEYS_PER_MULTISIG;
-unfoldable pub multisigOps : Bool → ℕ → ℕ
+unfoldable pub multisigOps : (fAccurate : Bool) (lastOpcode : ℕ) → ℕ
 multisigOps fAccurate lastOpcode =
     if fAccurate && (leb OP-1 lastOpcode && leb lastOpcode OP-16) then decodeOP-N lastOpcode else MAX-PUBKEYS-PER-MULTISIG
 
 -- what the opcode that was read adds to n
-unfoldable pub sigOps : Bool → ℕ → ℕ → ℕ
+unfoldable pub sigOps : (fAccurate : Bool) (lastOpcode opcode : ℕ) → ℕ
 sigOps fAccurate lastOpcode opcode =
     if eqb opcode OP-CHECKSIG || eqb opcode OP-CHECKSIGVERIFY then 1
     else if eqb opcode OP-CHECKMULTISIG || eqb opcode OP-CHECKMULTISIGVERIFY then multisigOps fAccurate lastOpcode
     else 0
 
 -- if (!GetOp(pc, opcode)) break; n += ..; lastOpcode = opcode;
-abbrev pub turn : Bool → ℕ → ℕ → ScriptOp → (ℕ → ℕ → ℕ → ℕ) → ℕ
+abbrev pub turn : (fAccurate : Bool) (n lastOpcode : ℕ) → ScriptOp → (again : (pc n lastOpcode : ℕ) → ℕ) → ℕ
 turn fAccurate n lastOpcode fails again = n
 turn fAccurate n lastOpcode (reads opcode vch pc) again = again pc (n + sigOps fAccurate lastOpcode opcode) opcode
 
 -- while (pc < end()), for so many turns
-unfoldable pub while : ℕ → Bool → List ℕ → ℕ → ℕ → ℕ → ℕ
+unfoldable pub while : (turns : ℕ) (fAccurate : Bool) (s : List ℕ) (pc n lastOpcode : ℕ) → ℕ
 while zero fAccurate s pc n lastOpcode = n
 while (suc turns) fAccurate s pc n lastOpcode =
     if ltb pc (length s) then turn fAccurate n lastOpcode (getScriptOp s pc) (while turns fAccurate s) else n
 
--- GetSigOpCount; each turn reads a byte at least, so the script has bytes for all of them
+-- GetSigOpCount; each turn reads a byte at least, so as many turns as the script has bytes are enough
 unfoldable pub getSigOpCount : Bool → List ℕ → ℕ
 getSigOpCount fAccurate s = while (length s) fAccurate s 0 0 OP-INVALIDOPCODE
 

@@ -27,7 +27,7 @@ dustSize s =
     else length s + getSizeOfCompactSize (length s) + 156
 
 -- 'rate times size, divided by 1000, rounded down'; refusal 9 where the product exceeds 2^64 - 1
-unfoldable pub feeSays : ℕ → ℕ → Said ℕ
+unfoldable pub feeSays : (rate size : ℕ) → Said ℕ
 feeSays rate size = if ltb most (rate * size) then refuses 9 [] else answers (rate * size / 1000)
 
 -- 'The default rate is 3000'
@@ -35,7 +35,7 @@ unfoldable pub dustSays : List ℕ → Said ℕ
 dustSays s = if ltb limit (length s) then refuses 1 [] else answers (3000 * dustSize s / 1000)
 
 -- 'the custom call takes satoshi per 1000 weight units, times 4'; refusal 9 where that exceeds 2^64 - 1
-unfoldable pub customSays : List ℕ → ℕ → Said ℕ
+unfoldable pub customSays : List ℕ → (rate : ℕ) → Said ℕ
 customSays s rate =
     if ltb limit (length s) then refuses 1 []
     else if ltb most (rate * 4) then refuses 9 []
