@@ -19,6 +19,10 @@ module _ {A : Type 0} (f : List ℕ → A) (s : List ℕ) where
   unfolding judges
   judged h e = rw (le-ltb limit (length s) h, e)
 
+  pub answered : length s ≤ limit → {r : Said A} → r ≡ answers (f s) → r ≡ judges f s
+  unfolding judges
+  answered h e = rw (le-ltb limit (length s) h, e)
+
   -- either way
   pub judged-by : {r : Said A} {a : A} → r ≡ judges (λ _. a) s → a ≡ f s → r ≡ judges f s
   unfolding judges

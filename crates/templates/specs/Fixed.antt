@@ -4,7 +4,7 @@ use mathlib.Core.List.{List, [], _∷_, _++_}
 use mathlib.Core.Option.{Option, none, some}
 use Prim.Native.Nat.{ℕ, _+_, _-_}
 use lib.Dec.{leb, eqb}
-use lib.ListN.{length, getD, take, drop}
+use lib.ListN.{length, getD, drop}
 use Rattle.laws.specs.Choice.{if_then_else_}
 use Rattle.laws.specs.Witness.{isWitnessProgram}
 
@@ -84,9 +84,10 @@ isPayToPubkey s = isKeyOf 65 s || isKeyOf 33 s
 unfoldable pub isOpReturn : List ℕ → Bool
 isOpReturn s = leb 1 (length s) && eqb (getD s 0 0) OP-RETURN
 
--- 'p2wpkh_script_code': for P2WPKH with hash h, 76 a9 14 h 88 ac; else nothing
+-- 'p2wpkh_script_code': with hash h, 76 a9 14 h 88 ac
+abbrev pub codeOf : List ℕ → List ℕ
+codeOf h = OP-DUP ∷ OP-HASH160 ∷ 0x14 ∷ (h ++ (OP-EQUALVERIFY ∷ OP-CHECKSIG ∷ []))
+
+-- the program of a P2WPKH script is its hash; for all else nothing is written
 unfoldable pub scriptCode : List ℕ → List ℕ
-scriptCode s =
-    if isPayToWitnessPubkeyHash s
-    then OP-DUP ∷ OP-HASH160 ∷ 0x14 ∷ (take 20 (drop 2 s) ++ (OP-EQUALVERIFY ∷ OP-CHECKSIG ∷ []))
-    else []
+scriptCode s = if isPayToWitnessPubkeyHash s then codeOf (drop 2 s) else []

@@ -108,7 +108,7 @@ abbrev pub checks : Run → Bool
 checks = opcodeThen λ code rest. eqb code OP-CHECKMULTISIG && isEnd rest
 
 -- 'pushes, at most 255; one opcode, which if it is a number must equal the count of pushes; OP_CHECKMULTISIG; end; m at most the count'
-abbrev pub keysThen : ℕ → Run → Bool
+unfoldable pub keysThen : ℕ → Run → Bool
 keysThen m run =
     leb (pushes run) 255 && opcodeThen (λ code rest. agrees (numberOf code) (pushes run) && checks rest) (afterPushes run) && leb m (pushes run)
 

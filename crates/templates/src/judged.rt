@@ -2,6 +2,7 @@
 use crate::fixed;
 use crate::fixed::HASH160_SIZE;
 use crate::fixed::HASH256_SIZE;
+use crate::walked;
 use refusal::Judged;
 use refusal::MAX_SCRIPT;
 use refusal::Refusal;
@@ -9,6 +10,7 @@ ghost use mathlib.Core.Path.{_≡_};
 ghost use Rattle.laws.specs.Witness.{isWitnessProgram};
 ghost use Rattle.refusal.specs.Answer.{saidJudged};
 ghost use Rattle.templates.specs.Fixed.{isPayToScriptHash, isPayToPubkeyHash, isPayToWitnessPubkeyHash, isPayToWitnessScriptHash, isPayToTaproot, isPayToAnchor, isPayToPubkey, isOpReturn};
+ghost use Rattle.templates.specs.Walked.{isMultisig, isPushOnly};
 ghost use Rattle.templates.specs.Says.{judges};
 
 // The answer, unless the script is over the limit.
@@ -82,4 +84,18 @@ pub fn is_op_return(script: &[u8]) -> Judged
     ensures { λ r. ⌜ saidJudged r ≡ judges isOpReturn (now (script .entry)) ⌝ }
 {
     judge(script, fixed::op_return(script))
+}
+
+// Whether a script is a bare multisig.
+pub fn is_multisig(script: &[u8]) -> Judged
+    ensures { λ r. ⌜ saidJudged r ≡ judges isMultisig (now (script .entry)) ⌝ }
+{
+    judge(script, walked::multisig(script))
+}
+
+// Whether a script is whole and has no opcode above OP_PUSHNUM_16.
+pub fn is_push_only(script: &[u8]) -> Judged
+    ensures { λ r. ⌜ saidJudged r ≡ judges isPushOnly (now (script .entry)) ⌝ }
+{
+    judge(script, walked::push_only(script))
 }
