@@ -37,11 +37,17 @@ same-found (Refused r) (Opcode q d) e = cc
 same-found (Refused r) (Push q f b n) e = cc
 same-found (Refused r) (Refused t) e = ap Refused (same-refusal r t e)
 
-pub new-settled : (κs : _) (a : _) (r t : Cursor) (s u : _) → new.Post κs a r s → new.Post κs a t u → r .at ≡ t .at
-new-settled κs a r t s u = same-value
+abbrev cursor : ℕ → Cursor
+cursor at = record { at = at }
 
-pub next-settled : (κs : _) (a : _) (r t : Stepped) (s u : _) → next.Post κs a r s → next.Post κs a t u → (r .found ≡ t .found) × (r .next .at ≡ t .next .at)
-next-settled κs a r t s u p q = (settled same-found (r .found) (t .found) (p .0) (q .0), same-value (p .1) (q .1))
+abbrev stepped : Found → ℕ → Stepped
+stepped found at = record { found = found; next = cursor at }
+
+pub new-settled : (κs : _) (a : _) (r t : Cursor) (s u : _) → new.Post κs a r s → new.Post κs a t u → r ≡ t
+new-settled κs a r t s u p q = ap cursor (same-value p q)
+
+pub next-settled : (κs : _) (a : _) (r t : Stepped) (s u : _) → next.Post κs a r s → next.Post κs a t u → r ≡ t
+next-settled κs a r t s u p q = ap₂ stepped (settled same-found (r .found) (t .found) (p .0) (q .0)) (same-value (p .1) (q .1))
 
 pub positions-settled : (κs : _) (a : _) (r t : Counted) (s u : _) → positions.Post κs a r s → positions.Post κs a t u
     → (r ≡ t) × (now (s .1 .1 .0) ≡ now (u .1 .1 .0))

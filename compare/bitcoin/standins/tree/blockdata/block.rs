@@ -1,0 +1,3 @@
+//! Stand-in: types without content.
+
+crate::opaque::opaque!(BlockHash, Header, TxMerkleNode);

@@ -1,0 +1,3 @@
+//! Stand-in: the relative lock time is not named.
+
+pub mod absolute;

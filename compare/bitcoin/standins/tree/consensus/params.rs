@@ -1,0 +1,3 @@
+//! Stand-in: a name that is passed on.
+
+pub struct Params;

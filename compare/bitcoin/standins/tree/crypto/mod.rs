@@ -1,0 +1,3 @@
+//! Stand-in: keys alone.
+
+pub mod key;
