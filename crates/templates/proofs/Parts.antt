@@ -1,0 +1,78 @@
+-- What is answered as place and length lies within the script. Assumes nothing.
+use mathlib.Core.Path.{_≡_, refl}
+use mathlib.Core.Logic.{_⊎_, inl, inr, ⊎-elim}
+use mathlib.Core.Bool.{Bool, true, false, _&&_, _||_}
+use mathlib.Core.List.{List}
+use mathlib.Core.Option.{Option, none, some}
+use Prim.Native.Nat.{ℕ, zero, suc, _+_, _-_, _≤_}
+use native.Mathlib.Omega.{arith}
+use borrow.Author.Tests.{eqb-true}
+use lib.Dec.{ltb, eqb}
+use lib.ListN.{length, getD}
+use Rattle.laws.specs.Said.{Said, answers, refuses}
+use Rattle.laws.proofs.Test.{by-test}
+use Rattle.refusal.specs.Refusal.{limit}
+use Rattle.walk.specs.Walk.{Walked, end, opcode, push, walkSays, nextAt}
+use Rattle.walk.specs.Run.{continue, walkFor, walkFrom, items, ending}
+use Rattle.walk.proofs.Good.{Good, good}
+use Rattle.templates.specs.Fixed.{isKeyOf, isPayToPubkey}
+use Rattle.templates.specs.Walked.{Stretch, stretch, unrefused, every, isPush, lastBody, redeemScript}
+use Rattle.templates.specs.Says.{judges, pubkeyOf, startOf, lenOf}
+
+either : (a b : Bool) → (a || b) ≡ true → (a ≡ true) ⊎ (b ≡ true)
+either true b e = inl refl
+either false b e = inr e
+
+and-first : (a b c : Bool) → (a && b && c) ≡ true → a ≡ true
+and-first true b c e = refl
+and-first false b c e = e
+
+module _ (s : List ℕ) where
+  abbrev Within : Option Stretch → Type 0
+  Within none = Unit {0}
+  Within (some (stretch start len)) = start + len ≤ length s
+
+  abbrev Inside : Said (Option Stretch) → Type 0
+  Inside a = startOf a + lenOf a ≤ length s
+
+  answered : (f : List ℕ → Option Stretch) → Within (f s) → Inside (judges f s)
+  unfolding judges
+  answered f w = by-test Inside (ltb limit (length s)) (λ e. omega arith) (λ e. go (f s) w)
+    where
+      go : (o : Option Stretch) → Within o → Inside (answers o)
+      go none w = omega arith
+      go (some (stretch start len)) w = w
+
+  -- the key
+  key-length : (size : ℕ) → isKeyOf size s ≡ true → length s ≡ size + 2
+  unfolding isKeyOf
+  key-length size e = eqb-true (length s) (size + 2) (and-first (eqb (length s) (size + 2)) (eqb (getD s 0 0) size) (eqb (getD s (size + 1) 0) 0xac) e)
+
+  pub key-long : isPayToPubkey s ≡ true → 35 ≤ length s
+  unfolding isPayToPubkey
+  key-long e =
+      ⊎-elim (λ t. omega (arith, key-length 65 t)) (λ t. omega (arith, key-length 33 t)) (either (isKeyOf 65 s) (isKeyOf 33 s) e)
+
+  pub key-inside : Inside (judges pubkeyOf s)
+  unfolding pubkeyOf
+  key-inside = answered pubkeyOf (by-test Within (isPayToPubkey s) (λ e. omega (arith, key-long e)) (λ e. tt))
+
+  -- the redeem script: every body that the walk gives stands whole in the script
+  bodies : (n p : ℕ) (before : Option Stretch) → Within before → Within (lastBody before (items (walkFor n false s p)))
+  unfolding walkFor
+  bodies zero p before h = h
+  bodies (suc n) p before h = go (walkSays false s p) (good false s p) (bodies n (nextAt false s p))
+    where
+      go : (a : Said Walked) → Good false s p a
+          → ((o : Option Stretch) → Within o → Within (lastBody o (items (walkFor n false s (nextAt false s p)))))
+          → Within (lastBody before (items (continue a (walkFor n false s (nextAt false s p)))))
+      go (answers end) g rest = h
+      go (answers (opcode place code)) g rest = rest none tt
+      go (answers (push place form body len)) g rest = rest (some (stretch body len)) (g .fits)
+      go (refuses number values) g rest = h
+
+  pub redeem-inside : Inside (judges redeemScript s)
+  unfolding redeemScript walkFrom
+  redeem-inside =
+      answered redeemScript
+      (by-test Within (unrefused (ending (walkFrom false s 0)) && every isPush (items (walkFrom false s 0))) (λ e. bodies (suc (length s - 0)) 0 none tt) (λ e. tt))

@@ -1,0 +1,54 @@
+-- 'Kind, first that fits'. Assumes nothing.
+use mathlib.Core.Bool.{Bool, true}
+use mathlib.Core.List.{List, [], _∷_}
+use Prim.Native.Nat.{ℕ}
+use Rattle.laws.specs.Choice.{if_then_else_}
+use Rattle.laws.specs.Witness.{isWitnessProgram}
+use Rattle.templates.specs.Fixed.{
+  isPayToPubkeyHash,
+  isPayToScriptHash,
+  isPayToWitnessPubkeyHash,
+  isPayToWitnessScriptHash,
+  isPayToTaproot,
+  isPayToAnchor,
+  isPayToPubkey,
+  isOpReturn,
+}
+use Rattle.templates.specs.Walked.{isMultisig}
+
+pub data Kind : Type 0 where
+  p2pkh : Kind
+  p2sh : Kind
+  p2wpkh : Kind
+  p2wsh : Kind
+  p2tr : Kind
+  p2a : Kind
+  witness : Kind
+  p2pk : Kind
+  multisig : Kind
+  opreturn : Kind
+  other : Kind
+
+abbrev pub fits : Kind → List ℕ → Bool
+fits p2pkh s = isPayToPubkeyHash s
+fits p2sh s = isPayToScriptHash s
+fits p2wpkh s = isPayToWitnessPubkeyHash s
+fits p2wsh s = isPayToWitnessScriptHash s
+fits p2tr s = isPayToTaproot s
+fits p2a s = isPayToAnchor s
+fits witness s = isWitnessProgram s
+fits p2pk s = isPayToPubkey s
+fits multisig s = isMultisig s
+fits opreturn s = isOpReturn s
+fits other s = true
+
+-- document 01's order
+abbrev pub kinds : List Kind
+kinds = p2pkh ∷ p2sh ∷ p2wpkh ∷ p2wsh ∷ p2tr ∷ p2a ∷ witness ∷ p2pk ∷ multisig ∷ opreturn ∷ other ∷ []
+
+abbrev pub firstThatFits : List Kind → List ℕ → Kind
+firstThatFits [] s = other
+firstThatFits (k ∷ ks) s = if fits k s then k else firstThatFits ks s
+
+unfoldable pub kindOf : List ℕ → Kind
+kindOf s = firstThatFits kinds s

@@ -1,0 +1,162 @@
+// Tests of the bytes that stand at fixed places of a script. Each looks at the length first, and none at more than six bytes.
+use opcodes::Code;
+use opcodes::OP_CHECKSIG;
+use opcodes::OP_EQUAL;
+use opcodes::OP_EQUALVERIFY;
+use opcodes::OP_PUSHNUM_1;
+ghost use mathlib.Core.Path.{_≡_};
+ghost use Rattle.laws.specs.Witness.{isWitnessProgram};
+ghost use Rattle.opcodes.specs.Opcode.{saidCode};
+ghost use Rattle.templates.specs.Fixed.{isPayToScriptHash, isPayToPubkeyHash, witnessVersion, isProgramOf, isPayToAnchor, isKeyOf, isPayToPubkey, isOpReturn};
+
+pub(crate) const OP_RETURN: u8 = 0x6a;
+
+pub(crate) const OP_DUP: u8 = 0x76;
+
+pub(crate) const OP_HASH160: u8 = 0xa9;
+
+// The bytes of a hash of 160 bits, and so the opcode that pushes it.
+pub(crate) const HASH160_SIZE: u8 = 20;
+
+// The bytes of a hash of 256 bits, or of a taproot key.
+pub(crate) const HASH256_SIZE: u8 = 32;
+
+// The bytes of a public key in its two forms.
+const KEY_SIZE: u8 = 65;
+
+const COMPRESSED_KEY_SIZE: u8 = 33;
+
+// The two bytes of the program that pays to an anchor.
+const ANCHOR_SIZE: u8 = 2;
+
+const ANCHOR_FIRST: u8 = 0x4e;
+
+const ANCHOR_SECOND: u8 = 0x73;
+
+// The fewest and the most bytes of a witness program.
+const MIN_WITNESS: usize = 4;
+
+const MAX_WITNESS: usize = 42;
+
+fn wide(x: u8) -> usize
+    ensures { λ r. ⌜ r ≡ x ⌝ }
+{
+    x as usize
+}
+
+// Pay to script hash.
+pub(crate) fn p2sh(s: &[u8]) -> bool
+    ensures { λ r. ⌜ r ≡ isPayToScriptHash (now (s .entry)) ⌝ }
+{
+    if s.len() == 23 {
+        (s[0] == OP_HASH160) & (s[1] == HASH160_SIZE) & (s[22] == OP_EQUAL)
+    } else {
+        false
+    }
+}
+
+// Pay to pubkey hash.
+pub(crate) fn p2pkh(s: &[u8]) -> bool
+    ensures { λ r. ⌜ r ≡ isPayToPubkeyHash (now (s .entry)) ⌝ }
+{
+    if s.len() == 25 {
+        (s[0] == OP_DUP)
+            & (s[1] == OP_HASH160)
+            & (s[2] == HASH160_SIZE)
+            & (s[23] == OP_EQUALVERIFY)
+            & (s[24] == OP_CHECKSIG)
+    } else {
+        false
+    }
+}
+
+// The version of a witness program.
+pub(crate) fn version(s: &[u8]) -> Code
+    ensures { λ r. ⌜ saidCode r ≡ witnessVersion (now (s .entry)) ⌝ }
+{
+    let n = s.len();
+    if n < MIN_WITNESS {
+        return Code::Nothing;
+    }
+    if MAX_WITNESS < n {
+        return Code::Nothing;
+    }
+    if wide(s[1]) + 2 != n {
+        return Code::Nothing;
+    }
+    let code = s[0];
+    if code == 0 {
+        return Code::Is(0);
+    }
+    opcodes::decode_pushnum(code)
+}
+
+// Whether a script is a witness program.
+pub(crate) fn witness(s: &[u8]) -> bool
+    ensures { λ r. ⌜ r ≡ isWitnessProgram (now (s .entry)) ⌝ }
+{
+    let found = version(s);
+    match found {
+        Code::Is(_) => true,
+        Code::Nothing => false,
+    }
+}
+
+// Whether a script is a witness program of this version, with a program of so many bytes.
+pub(crate) fn program(s: &[u8], number: u8, size: u8) -> bool
+    ensures { λ r. ⌜ r ≡ isProgramOf number size (now (s .entry)) ⌝ }
+{
+    if s.len() == wide(size) + 2 {
+        let found = version(s);
+        match found {
+            Code::Is(v) => v == number,
+            Code::Nothing => false,
+        }
+    } else {
+        false
+    }
+}
+
+// Pay to anchor.
+pub(crate) fn p2a(s: &[u8]) -> bool
+    ensures { λ r. ⌜ r ≡ isPayToAnchor (now (s .entry)) ⌝ }
+{
+    if s.len() == 4 {
+        (s[0] == OP_PUSHNUM_1)
+            & (s[1] == ANCHOR_SIZE)
+            & (s[2] == ANCHOR_FIRST)
+            & (s[3] == ANCHOR_SECOND)
+    } else {
+        false
+    }
+}
+
+// Whether a script is a key of so many bytes and OP_CHECKSIG.
+fn keyed(s: &[u8], size: u8) -> bool
+    ensures { λ r. ⌜ r ≡ isKeyOf size (now (s .entry)) ⌝ }
+{
+    let n = wide(size);
+    if s.len() == n + 2 {
+        (s[0] == size) & (s[n + 1] == OP_CHECKSIG)
+    } else {
+        false
+    }
+}
+
+// Pay to pubkey.
+pub(crate) fn p2pk(s: &[u8]) -> bool
+    ensures { λ r. ⌜ r ≡ isPayToPubkey (now (s .entry)) ⌝ }
+{
+    keyed(s, KEY_SIZE) | keyed(s, COMPRESSED_KEY_SIZE)
+}
+
+// Whether a script starts with OP_RETURN.
+pub(crate) fn op_return(s: &[u8]) -> bool
+    ensures { λ r. ⌜ r ≡ isOpReturn (now (s .entry)) ⌝ }
+{
+    if s.len() < 1 {
+        false
+    } else {
+        s[0] == OP_RETURN
+    }
+}
