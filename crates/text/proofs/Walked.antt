@@ -11,9 +11,8 @@ use lib.Seq.{length-take-le}
 use Rattle.laws.specs.Said.{Said, answers, refuses}
 use Rattle.opcodes.specs.Opcode.{PushForm, direct, pushdata1, pushdata2, pushdata4, lengthBytes, sortOf}
 use Rattle.opcodes.specs.Opcode as sort
-use Rattle.opcodes.specs.Text.{text}
 use Rattle.walk.specs.Script.{readLE}
-use Rattle.walk.specs.Walk.{Walked, end, opcode, push, walkSays, moved, nextAt}
+use Rattle.walk.specs.Walk.{Walked, end, opcode, push, walkSays, nextAt}
 use Rattle.walk.specs.Run.{item, walkFrom, items, ending}
 use Rattle.walk.specs.Calls.{given}
 use Rattle.walk.specs.Steps.{stated}
