@@ -116,11 +116,18 @@ fn measure(script: &[u8], lengths: &[u8; 256]) -> usize
     n
 }
 
+// Whether a script is over the limit.
+fn is_too_long(script: &[u8]) -> bool
+    ensures { λ r. ⌜ r ≡ ltb limit (length (now (script .entry))) ⌝ }
+{
+    refusal::MAX_SCRIPT < script.len()
+}
+
 // The text's length. Refused with 1 for a script over the limit.
 pub fn asm_len(script: &[u8]) -> Counted
     ensures { λ r. ⌜ saidCount r ≡ asmLenSays (now (script .entry)) ⌝ }
 {
-    if refusal::MAX_SCRIPT < script.len() {
+    if is_too_long(script) {
         return Counted::Refused(Refusal::TooLong);
     }
     let lengths = opcodes::name_lengths();
@@ -272,7 +279,7 @@ pub fn write_asm(script: &[u8], out: &mut [u8]) -> Counted
     ensures answer { λ r. ⌜ saidCount r ≡ asmSays (now (script .entry)) (length (now (out .entry))) ⌝ }
     ensures left { λ r. ⌜ now (out .exit) ≡ after (asmSays (now (script .entry)) (length (now (out .entry)))) (textOf (now (script .entry))) (now (out .entry)) ⌝ }
 {
-    if refusal::MAX_SCRIPT < script.len() {
+    if is_too_long(script) {
         return Counted::Refused(Refusal::TooLong);
     }
     let pool = opcodes::name_pool();
