@@ -1,0 +1,2 @@
+pub mod Asm
+pub mod Joined
