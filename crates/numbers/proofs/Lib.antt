@@ -1,0 +1,11 @@
+pub mod Coded
+pub mod Reading
+pub mod Written
+pub mod Exact
+pub mod Marked
+pub mod Negated
+pub mod Left
+pub mod First
+pub mod Outcome
+pub mod Same
+pub mod Settled

@@ -1,0 +1,2 @@
+pub mod ScriptNum
+pub mod Answer
