@@ -32,7 +32,7 @@ serialize value =
     let absvalue = natAbs value in
     if eqb absvalue 0 then [] else closeSign neg (lowBytes absvalue absvalue)
 
--- set_vch's loop, `result |= vch[i] << 8*i`
+-- set_vch's loop: the sum of vch[i] * 256^i
 abbrev pub littleEndian : List ℕ → ℕ
 littleEndian [] = 0
 littleEndian (b ∷ vch) = b + 0x100 * littleEndian vch
@@ -54,6 +54,7 @@ unfoldable pub nonMinimal : List ℕ → Bool
 nonMinimal vch =
     ltb 0 (length vch) && (eqb (back vch % 0x80) 0 && (leb (length vch) 1 || ltb (getD vch (length vch - 2) 0) 0x80))
 
+-- CScriptNum::nDefaultMaxNumSize
 abbrev pub nDefaultMaxNumSize : ℕ
 nDefaultMaxNumSize = 4
 

@@ -5,6 +5,7 @@ pub mod Good
 pub mod Run
 pub mod Places
 pub mod Settled
+pub mod AdvanceSettled
 pub mod Encoding
 pub mod Reading
 pub mod Exactly

@@ -1,4 +1,7 @@
 // The walk over a script: one instruction at a time, each call given the cursor that the one before gave back.
+mod lent;
+
+pub use lent::advance;
 use opcodes::Class;
 use opcodes::Form;
 use refusal::Counted;
