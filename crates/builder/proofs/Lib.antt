@@ -1,0 +1,7 @@
+pub mod Stored
+pub mod Called
+pub mod Ints
+pub mod Same
+pub mod Settled
+pub mod Shortest
+pub mod Marked

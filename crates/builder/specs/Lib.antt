@@ -1,0 +1,3 @@
+pub mod Builder
+pub mod Lent
+pub mod Answer

@@ -1,0 +1,381 @@
+// Scripts built piece by piece into a lent buffer: opcodes, data, integers, lock times, and verify folded into the last opcode.
+ghost use mathlib.Core.Path.{_≡_};
+ghost use mathlib.Core.List.{_∷_, _++_};
+ghost use mathlib.Core.Option.{none};
+ghost use Prim.Native.Nat.{_+_, _≤_};
+ghost use lib.IntN.{pos};
+ghost use lib.ListN.{length};
+ghost use lib.Seq.{sets};
+ghost use Rattle.refusal.specs.Refusal.{limit, saidRefusal};
+ghost use Rattle.opcodes.specs.Opcode.{saidCode};
+ghost use Rattle.walk.specs.Instruction.{writeLE};
+ghost use Rattle.walk.specs.Part.{Part};
+ghost use Rattle.builder.specs.Builder.{appends, pushOpcode, pushSlice, intOpcode, pushInt, verifyForm, pushVerify, lastOpcode, takesOver};
+ghost use Rattle.builder.specs.Lent.{builderSays, builtSays, calls, shown};
+ghost use Rattle.builder.specs.Answer.{saidAnswer, saidBuilt, callsBy};
+use numbers::write_scriptint;
+use opcodes::Code;
+use opcodes::OP_PUSHDATA1;
+use opcodes::OP_PUSHDATA2;
+use opcodes::OP_PUSHDATA4;
+use opcodes::OP_PUSHNUM_1;
+use refusal::Counted;
+use refusal::MAX_SCRIPT;
+use refusal::Refusal;
+use walk::Cursor;
+use walk::Found;
+use walk::Mode;
+
+const OP_0: u8 = 0x00;
+
+const OP_PUSHNUM_NEG1: u8 = 0x4f;
+
+const OP_VERIFY: u8 = 0x69;
+
+// The longest body that each length form can state, but for the longest form.
+const MAX_DIRECT: usize = 75;
+
+const MAX_PUSHDATA1: usize = 0xff;
+
+const MAX_PUSHDATA2: usize = 0xffff;
+
+// A script that is being built at the front of a buffer: how many of its bytes are used, and the opcode that the last call appended.
+pub struct Builder {
+    pub length: usize,
+    pub remembered: Code,
+}
+
+pub enum Answer {
+    Done,
+    Refused(Refusal),
+}
+
+// What a call answers, and the builder for the next one. After a refusal it is the builder that the call got.
+pub struct Built {
+    pub answer: Answer,
+    pub builder: Builder,
+}
+
+// Whether a script of so many used bytes, with a head and a body after them, is within the limit and fits a buffer of so many.
+fn fits(used: usize, head: usize, body: usize, room: usize) -> Answer
+    requires { ⌜ (used ≤ limit) × (head ≤ 5) ⌝ }
+    ensures { λ r. ⌜ saidAnswer r ≡ builtSays (used + head + body) room ⌝ }
+{
+    if MAX_SCRIPT < body {
+        return Answer::Refused(Refusal::TooLong);
+    }
+    let size = used + head + body;
+    if MAX_SCRIPT < size {
+        return Answer::Refused(Refusal::TooLong);
+    }
+    if room < size {
+        return Answer::Refused(Refusal::NoRoom(size));
+    }
+    Answer::Done
+}
+
+// Writes the lowest `width` bytes of n from `at` on, the lowest first.
+fn put_le(buffer: &mut [u8], at: usize, width: usize, n: usize)
+    requires { ⌜ at + width ≤ length (now buffer) ⌝ }
+    ensures { λ _. ⌜ now (buffer .exit) ≡ sets (now (buffer .entry)) at (writeLE width n) ⌝ }
+{
+    let mut rest = n;
+    let mut i = 0;
+    while i < width {
+        buffer[at + i] = (rest % 256) as u8;
+        rest = rest / 256;
+        i += 1;
+    }
+}
+
+// Copies body into the buffer from `at` on.
+fn put_bytes(buffer: &mut [u8], at: usize, body: &[u8])
+    requires { ⌜ at + length (now body) ≤ length (now buffer) ⌝ }
+    ensures { λ _. ⌜ now (buffer .exit) ≡ sets (now (buffer .entry)) at (now (body .entry)) ⌝ }
+{
+    let mut i = 0;
+    while i < body.len() {
+        buffer[at + i] = body[i];
+        i += 1;
+    }
+}
+
+// Writes an opcode byte, the lowest `width` bytes of the body's length, and the body, from `at` on.
+fn put_push(buffer: &mut [u8], at: usize, code: u8, width: usize, body: &[u8])
+    requires { ⌜ at + (1 + width + length (now body)) ≤ length (now buffer) ⌝ }
+    ensures { λ _. ⌜ now (buffer .exit) ≡ sets (now (buffer .entry)) at (code ∷ (writeLE width (length (now (body .entry))) ++ now (body .entry))) ⌝ }
+{
+    buffer[at] = code;
+    put_le(buffer, at + 1, width, body.len());
+    put_bytes(buffer, at + 1 + width, body);
+}
+
+// The opcode that pushes n, where there is one: -1 to 16.
+fn int_opcode(n: i64) -> Code
+    ensures { λ r. ⌜ saidCode r ≡ intOpcode n ⌝ }
+{
+    match n {
+        -1 => Code::Is(OP_PUSHNUM_NEG1),
+        0 => Code::Is(OP_0),
+        1..=16 => Code::Is((n as u8) + (OP_PUSHNUM_1 - 1)),
+        _ => Code::Nothing,
+    }
+}
+
+// The opcode that does the same as the remembered one and then verifies, where there is one.
+fn verify_form(remembered: Code) -> Code
+    ensures { λ r. ⌜ saidCode r ≡ verifyForm (saidCode remembered) ⌝ }
+{
+    match remembered {
+        Code::Is(code) => opcodes::opcode_to_verify(code),
+        Code::Nothing => Code::Nothing,
+    }
+}
+
+// The last instruction of a script, if it is an opcode and the plain walk refuses nothing.
+fn last_opcode(script: &[u8]) -> Code
+    ensures { λ r. ⌜ saidCode r ≡ lastOpcode (now (script .entry)) ⌝ }
+{
+    let mut c = Cursor { at: 0 };
+    let mut last = Code::Nothing;
+    loop {
+        let stepped = c.next(script, Mode::Plain);
+        let found = stepped.found;
+        match found {
+            Found::End => {
+                return last;
+            }
+            Found::Opcode { place: _, code } => {
+                last = Code::Is(code);
+                c = stepped.next;
+            }
+            Found::Push {
+                place: _,
+                form: _,
+                body: _,
+                len: _,
+            } => {
+                last = Code::Nothing;
+                c = stepped.next;
+            }
+            Found::Refused(_) => {
+                return Code::Nothing;
+            }
+        }
+    }
+}
+
+impl Builder {
+    // An empty script, nothing remembered.
+    pub fn new() -> Builder
+        ensures { λ r. ⌜ (r .length ≡ 0) × (saidCode (r .remembered) ≡ none) ⌝ }
+    {
+        Builder {
+            length: 0,
+            remembered: Code::Nothing,
+        }
+    }
+
+    // Refused with 1 for a used length over the limit; with 13 for one over the buffer's, or where an opcode is remembered that is not the last
+    // used byte.
+    fn check(self, buffer: &[u8]) -> Answer
+        ensures { λ r. ⌜ saidAnswer r ≡ builderSays (self .length) (saidCode (self .remembered)) (now (buffer .entry)) ⌝ }
+    {
+        let used = self.length;
+        let remembered = self.remembered;
+        if MAX_SCRIPT < used {
+            return Answer::Refused(Refusal::TooLong);
+        }
+        if buffer.len() < used {
+            return Answer::Refused(Refusal::BadBuilder);
+        }
+        let Code::Is(code) = remembered else {
+            return Answer::Done;
+        };
+        if used == 0 {
+            return Answer::Refused(Refusal::BadBuilder);
+        }
+        if buffer[used - 1] == code {
+            Answer::Done
+        } else {
+            Answer::Refused(Refusal::BadBuilder)
+        }
+    }
+
+    // How many bytes of the buffer are shown: the used ones, and none for a builder that `check` refuses.
+    fn used(self, buffer: &[u8]) -> usize
+        ensures { λ r. ⌜ (r ≡ shown (self .length) (saidCode (self .remembered)) (now (buffer .entry))) × (r ≤ length (now (buffer .entry))) ⌝ }
+    {
+        let given = self.check(buffer);
+        match given {
+            Answer::Done => self.length,
+            Answer::Refused(_) => 0,
+        }
+    }
+
+    // Appends an opcode byte, the lowest `width` bytes of the body's length, and the body. The refusals of `check` come first; then 1 for a built
+    // script over the limit, and 7 with its whole length where the buffer is shorter.
+    fn append(
+        self,
+        buffer: &mut [u8],
+        code: u8,
+        width: usize,
+        body: &[u8],
+        remembered: Code,
+    ) -> Built
+        requires { ⌜ width ≤ 4 ⌝ }
+        ensures { λ r. ⌜ saidBuilt r (now (buffer .exit)) ≡ calls (appends (code ∷ (writeLE width (length (now (body .entry))) ++ now (body .entry))) (saidCode remembered)) (self .length) (saidCode (self .remembered)) (now (buffer .entry)) ⌝ }
+    {
+        let given = self.check(buffer);
+        if let Answer::Refused(why) = given {
+            return Built {
+                answer: Answer::Refused(why),
+                builder: self,
+            };
+        }
+        let used = self.length;
+        let head = 1 + width;
+        let built = fits(used, head, body.len(), buffer.len());
+        if let Answer::Refused(why) = built {
+            return Built {
+                answer: Answer::Refused(why),
+                builder: self,
+            };
+        }
+        put_push(buffer, used, code, width, body);
+        Built {
+            answer: Answer::Done,
+            builder: Builder {
+                length: used + head + body.len(),
+                remembered,
+            },
+        }
+    }
+
+    // Appends an opcode byte and remembers it.
+    pub fn push_opcode(self, buffer: &mut [u8], code: u8) -> Built
+        ensures { λ r. ⌜ saidBuilt r (now (buffer .exit)) ≡ callsBy self (pushOpcode code) (now (buffer .entry)) ⌝ }
+    {
+        self.append(buffer, code, 0, b"", Code::Is(code))
+    }
+    // Appends a push of the body in the shortest length form, and remembers nothing.
+    pub fn push_slice(self, buffer: &mut [u8], body: &[u8]) -> Built
+        ensures { λ r. ⌜ saidBuilt r (now (buffer .exit)) ≡ callsBy self (pushSlice (now (body .entry))) (now (buffer .entry)) ⌝ }
+    {
+        let len = body.len();
+        if len <= MAX_DIRECT {
+            return self.append(buffer, len as u8, 0, body, Code::Nothing);
+        }
+        if len <= MAX_PUSHDATA1 {
+            return self.append(buffer, OP_PUSHDATA1, 1, body, Code::Nothing);
+        }
+        if len <= MAX_PUSHDATA2 {
+            return self.append(buffer, OP_PUSHDATA2, 2, body, Code::Nothing);
+        }
+        self.append(buffer, OP_PUSHDATA4, 4, body, Code::Nothing)
+    }
+
+    // Refuses with the builder's own refusal, if it has one, and else with this.
+    fn refuse(self, buffer: &[u8], why: Refusal) -> Built
+        ensures { λ r. ⌜ saidBuilt r (now (buffer .entry)) ≡ callsBy self (λ st. saidRefusal why) (now (buffer .entry)) ⌝ }
+    {
+        let given = self.check(buffer);
+        if let Answer::Refused(first) = given {
+            return Built {
+                answer: Answer::Refused(first),
+                builder: self,
+            };
+        }
+        Built {
+            answer: Answer::Refused(why),
+            builder: self,
+        }
+    }
+
+    // Appends a number: its opcode for -1 to 16, and remembers it; else a push of its bytes. -2^63 is refused with 6.
+    pub fn push_int(self, buffer: &mut [u8], n: i64) -> Built
+        ensures { λ r. ⌜ saidBuilt r (now (buffer .exit)) ≡ callsBy self (pushInt n) (now (buffer .entry)) ⌝ }
+    {
+        let opcode = int_opcode(n);
+        if let Code::Is(code) = opcode {
+            return self.push_opcode(buffer, code);
+        }
+        let mut bytes = [0u8; 8];
+        let written = write_scriptint(n, &mut bytes);
+        match written {
+            Counted::Count(count) => self.push_slice(buffer, &bytes[..count]),
+            Counted::Refused(why) => self.refuse(buffer, why),
+        }
+    }
+
+    // Appends an absolute lock time as a number.
+    pub fn push_lock_time(self, buffer: &mut [u8], n: u32) -> Built
+        ensures { λ r. ⌜ saidBuilt r (now (buffer .exit)) ≡ callsBy self (pushInt (pos n)) (now (buffer .entry)) ⌝ }
+    {
+        self.push_int(buffer, n as i64)
+    }
+
+    // Appends a sequence number as a number.
+    pub fn push_sequence(self, buffer: &mut [u8], n: u32) -> Built
+        ensures { λ r. ⌜ saidBuilt r (now (buffer .exit)) ≡ callsBy self (pushInt (pos n)) (now (buffer .entry)) ⌝ }
+    {
+        self.push_int(buffer, n as i64)
+    }
+
+    // Puts the verify form of the remembered opcode in its place, where it has one, and else appends OP_VERIFY; remembers what it wrote.
+    pub fn push_verify(self, buffer: &mut [u8]) -> Built
+        ensures { λ r. ⌜ saidBuilt r (now (buffer .exit)) ≡ callsBy self pushVerify (now (buffer .entry)) ⌝ }
+    {
+        let remembered = self.remembered;
+        let form = verify_form(remembered);
+        let Code::Is(code) = form else {
+            return self.push_opcode(buffer, OP_VERIFY);
+        };
+        let given = self.check(buffer);
+        if let Answer::Refused(why) = given {
+            return Built {
+                answer: Answer::Refused(why),
+                builder: self,
+            };
+        }
+        let used = self.length;
+        buffer[used - 1] = code;
+        Built {
+            answer: Answer::Done,
+            builder: Builder {
+                length: used,
+                remembered: form,
+            },
+        }
+    }
+
+    // Takes the first bytes of a buffer over, and remembers their last instruction if it is an opcode and the plain walk refuses nothing.
+    // Refused with 1 for a length over the limit and with 13 for one over the buffer's; the builder then has that length and remembers nothing.
+    pub fn start(buffer: &[u8], length: usize) -> Built
+        ensures { λ r. ⌜ saidBuilt r (now (buffer .entry)) ≡ calls takesOver length none (now (buffer .entry)) ⌝ }
+    {
+        let builder = Builder {
+            length,
+            remembered: Code::Nothing,
+        };
+        let answer = builder.check(buffer);
+        match answer {
+            Answer::Refused(_) => Built { answer, builder },
+            Answer::Done => Built {
+                answer,
+                builder: Builder {
+                    length,
+                    remembered: last_opcode(&buffer[..length]),
+                },
+            },
+        }
+    }
+
+    // The used bytes, as a part of the buffer; the empty part at its front for a builder that a call would refuse.
+    pub fn as_bytes<'a>(self, buffer: &'a [u8]) -> &'a [u8]
+        ensures { λ r. ⌜ Part r (buffer .entry) 0 (shown (self .length) (saidCode (self .remembered)) (now (buffer .entry))) ⌝ }
+    {
+        let used = self.used(buffer);
+        &buffer[..used]
+    }
+}
