@@ -1,4 +1,4 @@
--- `text::put_hex` meets its contract. The loop's invariant: what is still to be stored, stored from here on, gives the buffer at the end.
+-- `text::put::put_hex` meets its contract. The loop's invariant: what is still to be stored, stored from here on, gives the buffer at the end.
 -- The measure is what is left of the bytes. Assumes nothing.
 use mathlib.Core.Path.{_≡_, refl, sym, _∙_}
 use Prim.Native.Nat.{_+_, _-_, _*_, _≤_}
@@ -8,8 +8,8 @@ use lib.Seq.{sets}
 use Rattle.text.specs.Asm.{hex}
 use Rattle.text.proofs.Sizes.{hex-length}
 use Rattle.text.proofs.Stored.{store-hex}
-use Rattle.text.proofs.put_hex.Statement.{statement}
-use Rattle.text.proofs.put_hex.Tie as tie
+use Rattle.text.proofs.put.put_hex.Statement.{statement}
+use Rattle.text.proofs.put.put_hex.Tie as tie
 
 abbrev Inv-loop : tie.InvT-loop
 Inv-loop out₀ n bytes m₀ i₀ out m i =

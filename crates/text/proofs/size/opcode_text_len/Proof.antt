@@ -1,11 +1,11 @@
--- `text::opcode_text_len` meets its contract: byte 0 is told apart, and the table of lengths has the others. Assumes nothing.
+-- `text::size::opcode_text_len` meets its contract: byte 0 is told apart, and the table of lengths has the others. Assumes nothing.
 use mathlib.Core.Path.{_∙_}
 use borrow.Author.Tests.{eq-eqb, ne-eqb}
 use Rattle.opcodes.proofs.Pooled.{length-at}
 use Rattle.text.specs.Asm.{opcodeText}
 use borrow.Author.Needs.{needs}
-use Rattle.text.proofs.opcode_text_len.Statement.{statement}
-use Rattle.text.proofs.opcode_text_len.Tie as tie
+use Rattle.text.proofs.size.opcode_text_len.Statement.{statement}
+use Rattle.text.proofs.size.opcode_text_len.Tie as tie
 
 returns : tie.Need-returns
 unfolding opcodeText

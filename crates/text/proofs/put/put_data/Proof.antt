@@ -1,4 +1,4 @@
--- `text::put_data` meets its contract: the test on the length picks the case. Assumes nothing.
+-- `text::put::put_data` meets its contract: the test on the length picks the case. Assumes nothing.
 use mathlib.Core.Path.{_≡_, refl, ap, _∙_}
 use mathlib.Core.List.{_∷_}
 use native.Mathlib.Numerals.{add-one}
@@ -8,8 +8,8 @@ use lib.ListN.{length, length-set}
 use lib.Seq.{length-sets}
 use Rattle.text.specs.Asm.{hex, dataText}
 use borrow.Author.Needs.{needs}
-use Rattle.text.proofs.put_data.Statement.{statement}
-use Rattle.text.proofs.put_data.Tie as tie
+use Rattle.text.proofs.put.put_data.Statement.{statement}
+use Rattle.text.proofs.put.put_data.Tie as tie
 
 -- a nonempty push
 full : (c : tie.Else1) → dataText (c .before .before .before .args .bytes .now) ≡ 32 ∷ hex (c .before .before .before .args .bytes .now)

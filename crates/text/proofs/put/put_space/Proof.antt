@@ -1,12 +1,12 @@
--- `text::put_space` meets its contract: the test on the place picks the case. Assumes nothing.
+-- `text::put::put_space` meets its contract: the test on the place picks the case. Assumes nothing.
 use mathlib.Core.Path.{_≡_, refl}
 use native.Mathlib.Omega.{arith}
 use borrow.Author.Tests.{eq-eqb, ne-eqb}
 use lib.ListN.{length}
 use Rattle.text.specs.Asm.{spaceAt}
 use borrow.Author.Needs.{needs}
-use Rattle.text.proofs.put_space.Statement.{statement}
-use Rattle.text.proofs.put_space.Tie as tie
+use Rattle.text.proofs.put.put_space.Statement.{statement}
+use Rattle.text.proofs.put.put_space.Tie as tie
 
 one : (c : tie.Else1) → length (spaceAt (c .before .args .at)) ≡ 1
 unfolding spaceAt

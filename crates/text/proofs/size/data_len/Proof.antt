@@ -1,8 +1,8 @@
--- `text::data_len` meets its contract: the test on the opcode picks the case. Assumes nothing.
+-- `text::size::data_len` meets its contract: the test on the opcode picks the case. Assumes nothing.
 use borrow.Author.Tests.{lt-ltb, le-ltb}
 use borrow.Author.Needs.{needs}
-use Rattle.text.proofs.data_len.Statement.{statement}
-use Rattle.text.proofs.data_len.Tie as tie
+use Rattle.text.proofs.size.data_len.Statement.{statement}
+use Rattle.text.proofs.size.data_len.Tie as tie
 
 returns : tie.Need-returns
 returns c = rw (lt-ltb _ _ (c .before .if1 .taken)) (c .wide .ensures .0)

@@ -1,4 +1,4 @@
--- `text::put_opcode` meets its contract: byte 0 is told apart, and the tables place the name of every other. Assumes nothing.
+-- `text::put::put_opcode` meets its contract: byte 0 is told apart, and the tables place the name of every other. Assumes nothing.
 use mathlib.Core.Path.{_≡_, ap}
 use native.Mathlib.Omega.{arith}
 use borrow.Author.Tests.{eq-eqb, ne-eqb}
@@ -7,8 +7,8 @@ use Rattle.opcodes.specs.Text.{text}
 use Rattle.opcodes.proofs.Pooled.{name-at}
 use Rattle.text.specs.Asm.{opcodeText}
 use borrow.Author.Needs.{needs}
-use Rattle.text.proofs.put_opcode.Statement.{statement}
-use Rattle.text.proofs.put_opcode.Tie as tie
+use Rattle.text.proofs.put.put_opcode.Statement.{statement}
+use Rattle.text.proofs.put.put_opcode.Tie as tie
 
 -- byte 0
 zero : (c : tie.Then1) → opcodeText (c .before .before .before .args .code) ≡ text "OP_0"

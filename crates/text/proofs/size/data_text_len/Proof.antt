@@ -1,8 +1,8 @@
--- `text::data_text_len` meets its contract: the test on the length picks the case. Assumes nothing.
+-- `text::size::data_text_len` meets its contract: the test on the length picks the case. Assumes nothing.
 use borrow.Author.Tests.{eq-eqb, ne-eqb}
 use borrow.Author.Needs.{needs}
-use Rattle.text.proofs.data_text_len.Statement.{statement}
-use Rattle.text.proofs.data_text_len.Tie as tie
+use Rattle.text.proofs.size.data_text_len.Statement.{statement}
+use Rattle.text.proofs.size.data_text_len.Tie as tie
 
 returns : tie.Need-returns
 returns c = rw (eq-eqb _ _ (c .if1 .taken))

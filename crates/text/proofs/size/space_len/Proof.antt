@@ -1,8 +1,8 @@
--- `text::space_len` meets its contract: the test on the place picks the case. Assumes nothing.
+-- `text::size::space_len` meets its contract: the test on the place picks the case. Assumes nothing.
 use borrow.Author.Tests.{eq-eqb, ne-eqb}
 use Rattle.text.specs.Asm.{spaceAt}
-use Rattle.text.proofs.space_len.Statement.{statement}
-use Rattle.text.proofs.space_len.Tie as tie
+use Rattle.text.proofs.size.space_len.Statement.{statement}
+use Rattle.text.proofs.size.space_len.Tie as tie
 
 returns : tie.Need-returns
 unfolding spaceAt

@@ -1,10 +1,10 @@
--- `text::length_bytes_after` meets its contract: the class says whether there are any. Assumes nothing.
+-- `text::size::length_bytes_after` meets its contract: the class says whether there are any. Assumes nothing.
 use mathlib.Core.Path.{sym, ap, _∙_}
 use Rattle.opcodes.specs.Opcode.{saidClass}
 use Rattle.text.specs.Asm.{lengthBytesAfter}
 use borrow.Author.Needs.{needs}
-use Rattle.text.proofs.length_bytes_after.Statement.{statement}
-use Rattle.text.proofs.length_bytes_after.Tie as tie
+use Rattle.text.proofs.size.length_bytes_after.Statement.{statement}
+use Rattle.text.proofs.size.length_bytes_after.Tie as tie
 
 returns : tie.Need-returns
 returns c =

@@ -1,4 +1,4 @@
--- `text::put_bytes` meets its contract. The loop's invariant: what is still to be stored, stored from here on, gives the buffer at the end.
+-- `text::put::put_bytes` meets its contract. The loop's invariant: what is still to be stored, stored from here on, gives the buffer at the end.
 -- The measure is what is left of the bytes. Assumes nothing.
 use mathlib.Core.Path.{_≡_, refl, sym, _∙_}
 use Prim.Native.Nat.{_+_, _-_, _≤_}
@@ -7,8 +7,8 @@ use native.Mathlib.Omega.{arith}
 use lib.ListN.{length, drop, length-set, drop-of-length-le}
 use lib.Seq.{sets}
 use Rattle.text.proofs.Stored.{store-next}
-use Rattle.text.proofs.put_bytes.Statement.{statement}
-use Rattle.text.proofs.put_bytes.Tie as tie
+use Rattle.text.proofs.put.put_bytes.Statement.{statement}
+use Rattle.text.proofs.put.put_bytes.Tie as tie
 
 abbrev Inv-loop : tie.InvT-loop
 Inv-loop out₀ n bytes i₀ out i = (i ≤ length bytes) × (n + length bytes ≤ length out) × (length out ≡ length out₀) × (sets out (n + i) (drop i bytes) ≡ sets out₀ n bytes)

@@ -1,4 +1,4 @@
--- `text::hex_digit` meets its contract: sixteen digits, by one test that is computed over all. Assumes nothing.
+-- `text::put::hex_digit` meets its contract: sixteen digits, by one test that is computed over all. Assumes nothing.
 use mathlib.Core.Path.{_≡_, refl}
 use mathlib.Core.Bool.{Bool, true}
 use Prim.Native.Nat.{ℕ, _+_, _<_}
@@ -8,8 +8,8 @@ use Rattle.laws.specs.Choice.{if_then_else_}
 use Rattle.laws.proofs.Table.{every, at}
 use Rattle.text.specs.Asm.{hexDigit}
 use borrow.Author.Needs.{needs}
-use Rattle.text.proofs.hex_digit.Statement.{statement}
-use Rattle.text.proofs.hex_digit.Tie as tie
+use Rattle.text.proofs.put.hex_digit.Statement.{statement}
+use Rattle.text.proofs.put.hex_digit.Tie as tie
 
 right : ℕ → Bool
 right n = eqb (if ltb n 10 then 48 + n else 87 + n) (hexDigit n)
