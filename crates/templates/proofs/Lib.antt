@@ -1,3 +1,4 @@
+pub mod Both
 pub mod Judging
 pub mod Program
 pub mod Runs

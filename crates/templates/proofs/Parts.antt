@@ -1,7 +1,7 @@
 -- What is answered as place and length lies within the script. Assumes nothing.
-use mathlib.Core.Path.{_≡_, refl}
-use mathlib.Core.Logic.{_⊎_, inl, inr, ⊎-elim}
-use mathlib.Core.Bool.{Bool, true, false, _&&_, _||_}
+use mathlib.Core.Path.{_≡_}
+use mathlib.Core.Logic.{⊎-elim}
+use mathlib.Core.Bool.{Bool, true, false, _&&_}
 use mathlib.Core.List.{List}
 use mathlib.Core.Option.{Option, none, some}
 use Prim.Native.Nat.{ℕ, zero, suc, _+_, _-_, _≤_}
@@ -18,14 +18,7 @@ use Rattle.walk.proofs.Good.{Good, good}
 use Rattle.templates.specs.Fixed.{isKeyOf, isPayToPubkey}
 use Rattle.templates.specs.Walked.{Stretch, stretch, unrefused, every, isPush, lastBody, redeemScript}
 use Rattle.templates.specs.Says.{judges, pubkeyOf, startOf, lenOf}
-
-either : (a b : Bool) → (a || b) ≡ true → (a ≡ true) ⊎ (b ≡ true)
-either true b e = inl refl
-either false b e = inr e
-
-and-first : (a b c : Bool) → (a && b && c) ≡ true → a ≡ true
-and-first true b c e = refl
-and-first false b c e = e
+use Rattle.templates.proofs.Both.{and-left, either}
 
 module _ (s : List ℕ) where
   abbrev Within : Option Stretch → Type 0
@@ -46,7 +39,10 @@ module _ (s : List ℕ) where
   -- the key
   key-length : (size : ℕ) → isKeyOf size s ≡ true → length s ≡ size + 2
   unfolding isKeyOf
-  key-length size e = eqb-true (length s) (size + 2) (and-first (eqb (length s) (size + 2)) (eqb (getD s 0 0) size) (eqb (getD s (size + 1) 0) 0xac) e)
+  key-length size e =
+      let n : Bool = eqb (length s) (size + 2) in
+      let a : Bool = eqb (getD s 0 0) size in
+      eqb-true (length s) (size + 2) (and-left n a (and-left (n && a) (eqb (getD s (size + 1) 0) 0xac) e))
 
   pub key-long : isPayToPubkey s ≡ true → 35 ≤ length s
   unfolding isPayToPubkey

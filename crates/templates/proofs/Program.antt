@@ -1,10 +1,10 @@
 -- What the version of a witness program tells of it. Assumes nothing.
-use mathlib.Core.Path.{_≡_, refl, sym, ap}
+use mathlib.Core.Path.{_≡_, refl}
 use mathlib.Core.Logic.{⊎-elim}
 use mathlib.Core.Bool.{Bool, true, false, _&&_, _||_, and-true, and-false}
 use mathlib.Core.List.{List}
-use mathlib.Core.Option.{Option, none, some}
-use Prim.Native.Nat.{ℕ, _+_, _-_, _≤_, _<_}
+use mathlib.Core.Option.{none, some}
+use Prim.Native.Nat.{ℕ, _+_, _-_, _≤_}
 use native.Mathlib.Omega.{arith}
 use borrow.Author.Tests.{lt-ltb, le-ltb, le-leb, lt-leb, leb-true, eq-eqb, ne-eqb, eqb-true}
 use lib.Dec.{leb, eqb}
@@ -14,16 +14,7 @@ use Rattle.laws.specs.Witness.{isWitnessProgram}
 use Rattle.laws.proofs.Test.{lt-or-le}
 use Rattle.opcodes.specs.Opcode.{numberOf}
 use Rattle.templates.specs.Fixed.{versionOf, witnessVersion, isProgramOf, isPayToAnchor}
-
-and-left : (a b : Bool) → (a && b) ≡ true → a ≡ true
-and-left true b e = refl
-and-left false b e = e
-
-first-three : (a b c d e : Bool) → (a && b && c && d && e) ≡ true → (a ≡ true) × (b ≡ true) × (c ≡ true)
-first-three true true true d e h = (refl, refl, refl)
-first-three true true false d e h = (refl, refl, h)
-first-three true false c d e h = (refl, h, cc)
-first-three false b c d e h = (h, cc, cc)
+use Rattle.templates.proofs.Both.{and-left, and-right}
 
 -- a number opcode, as BIP 141 asks of the first byte
 pub number-version : (b : ℕ) → (b ≡ 0 → ⊥) → numberOf b ≡ (if (eqb b 0 || (leb 0x51 b && leb b 0x60)) then some (if eqb b 0 then 0 else b - (0x51 - 1)) else none)
@@ -91,5 +82,12 @@ module _ (s : List ℕ) where
   pub anchor-is-witness : isPayToAnchor s ≡ true → isWitnessProgram s ≡ true
   unfolding isPayToAnchor isWitnessProgram
   anchor-is-witness e =
-      let h = first-three (eqb (length s) 4) (eqb (getD s 0 0) 0x51) (eqb (getD s 1 0) 2) (eqb (getD s 2 0) 0x4e) (eqb (getD s 3 0) 0x73) e in
-      rw (eqb-true (length s) 4 (h .0), eqb-true (getD s 0 0) 0x51 (h .1), eqb-true (getD s 1 0) 2 (h .2))
+      let n : Bool = eqb (length s) 4 in
+      let a : Bool = eqb (getD s 0 0) 0x51 in
+      let b : Bool = eqb (getD s 1 0) 2 in
+      let d : (n && a && b) ≡ true = and-left (n && a && b) (eqb (getD s 2 0) 0x4e) (and-left (n && a && b && eqb (getD s 2 0) 0x4e) (eqb (getD s 3 0) 0x73) e) in
+      rw (
+        eqb-true (length s) 4 (and-left n a (and-left (n && a) b d)),
+        eqb-true (getD s 0 0) 0x51 (and-right n a (and-left (n && a) b d)),
+        eqb-true (getD s 1 0) 2 (and-right (n && a) b d),
+      )

@@ -1,8 +1,7 @@
 -- What each instruction of a walk decides for the templates that are read off it. Assumes nothing.
-use mathlib.Core.Path.{_≡_, refl}
-use mathlib.Core.Bool.{Bool, true, false, _&&_, and-false}
-use mathlib.Core.List.{List}
-use mathlib.Core.Option.{Option, none, some}
+use mathlib.Core.Path.{_≡_}
+use mathlib.Core.Bool.{false, _&&_, and-false}
+use mathlib.Core.Option.{Option, none}
 use Prim.Native.Nat.{ℕ, _≤_, _<_}
 use borrow.Author.Tests.{le-leb, lt-leb}
 use lib.Dec.{leb}

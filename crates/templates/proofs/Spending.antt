@@ -1,6 +1,6 @@
 -- The script code fills a buffer from its front: three bytes, the hash, two bytes. Assumes nothing.
 use mathlib.Core.Path.{_≡_, refl, sym, ap, _∙_}
-use mathlib.Core.Bool.{Bool, true, false, _&&_}
+use mathlib.Core.Bool.{true, false, _&&_}
 use mathlib.Core.Option.{Option, none, some}
 use mathlib.Core.List.{List, [], _∷_, _++_}
 use Prim.Native.Nat.{ℕ, zero, suc, _+_, _-_, _≤_, _<_}
@@ -17,6 +17,7 @@ use Rattle.laws.proofs.Filled.{filled, fill-put, fill-length, fill-done}
 use Rattle.refusal.specs.Refusal.{limit}
 use Rattle.templates.specs.Fixed.{versionOf, isProgramOf, codeOf, scriptCode}
 use Rattle.templates.specs.Says.{written, codeSays}
+use Rattle.templates.proofs.Both.{and-right}
 
 module _ (s : List ℕ) (n : length s ≡ 22) where
   abbrev w : List ℕ
@@ -81,14 +82,9 @@ module _ (s : List ℕ) (n : length s ≡ 22) where
 
 -- ---- the answers of `p2wpkh_script_code`
 
-and-last : (a b c : Bool) → (a && b && c) ≡ true → c ≡ true
-and-last true true c e = e
-and-last true false c e = cc
-and-last false b c e = cc
-
 pub code-size : (s : List ℕ) → isProgramOf 0 20 s ≡ true → length s ≡ 22
 unfolding isProgramOf
-code-size s e = omega (arith, eqb-true (length s - 2) 20 (and-last (isWitnessProgram s) (eqb (versionOf s) 0) (eqb (length s - 2) 20) e))
+code-size s e = omega (arith, eqb-true (length s - 2) 20 (and-right (isWitnessProgram s && eqb (versionOf s) 0) (eqb (length s - 2) 20) e))
 
 module _ (s old : List ℕ) where
   abbrev says : Said (Option ℕ)

@@ -16,6 +16,7 @@ use Rattle.templates.specs.Fixed.{
 }
 use Rattle.templates.specs.Walked.{isMultisig}
 
+-- document 01's eleven kinds, in its order
 pub data Kind : Type 0 where
   p2pkh : Kind
   p2sh : Kind
@@ -29,6 +30,7 @@ pub data Kind : Type 0 where
   opreturn : Kind
   other : Kind
 
+-- the test of each kind; a script that is nothing else is other
 abbrev pub fits : Kind → List ℕ → Bool
 fits p2pkh s = isPayToPubkeyHash s
 fits p2sh s = isPayToScriptHash s
@@ -42,7 +44,6 @@ fits multisig s = isMultisig s
 fits opreturn s = isOpReturn s
 fits other s = true
 
--- document 01's order
 abbrev pub kinds : List Kind
 kinds = p2pkh ∷ p2sh ∷ p2wpkh ∷ p2wsh ∷ p2tr ∷ p2a ∷ witness ∷ p2pk ∷ multisig ∷ opreturn ∷ other ∷ []
 
@@ -50,5 +51,6 @@ abbrev pub firstThatFits : List Kind → List ℕ → Kind
 firstThatFits [] s = other
 firstThatFits (k ∷ ks) s = if fits k s then k else firstThatFits ks s
 
+-- 'Kind, first that fits: p2pkh, p2sh, p2wpkh, p2wsh, p2tr, p2a, witness, p2pk, multisig, opreturn, other'
 unfoldable pub kindOf : List ℕ → Kind
 kindOf s = firstThatFits kinds s

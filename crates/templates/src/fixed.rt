@@ -1,4 +1,4 @@
-// Tests of the bytes that stand at fixed places of a script. Each looks at the length first, and none at more than six bytes.
+// Tests of the bytes that stand at fixed places of a script. Each looks at the length first, and none at more than five bytes.
 use opcodes::Code;
 use opcodes::OP_CHECKSIG;
 use opcodes::OP_EQUAL;
@@ -14,6 +14,13 @@ pub(crate) const OP_RETURN: u8 = 0x6a;
 pub(crate) const OP_DUP: u8 = 0x76;
 
 pub(crate) const OP_HASH160: u8 = 0xa9;
+
+// The bytes of the scripts whose length is fixed.
+const P2SH_LEN: usize = 23;
+
+const P2PKH_LEN: usize = 25;
+
+const P2A_LEN: usize = 4;
 
 // The bytes of a hash of 160 bits, and so the opcode that pushes it.
 pub(crate) const HASH160_SIZE: u8 = 20;
@@ -48,7 +55,7 @@ fn wide(x: u8) -> usize
 pub(crate) fn p2sh(s: &[u8]) -> bool
     ensures { λ r. ⌜ r ≡ isPayToScriptHash (now (s .entry)) ⌝ }
 {
-    if s.len() == 23 {
+    if s.len() == P2SH_LEN {
         (s[0] == OP_HASH160) & (s[1] == HASH160_SIZE) & (s[22] == OP_EQUAL)
     } else {
         false
@@ -59,7 +66,7 @@ pub(crate) fn p2sh(s: &[u8]) -> bool
 pub(crate) fn p2pkh(s: &[u8]) -> bool
     ensures { λ r. ⌜ r ≡ isPayToPubkeyHash (now (s .entry)) ⌝ }
 {
-    if s.len() == 25 {
+    if s.len() == P2PKH_LEN {
         (s[0] == OP_DUP)
             & (s[1] == OP_HASH160)
             & (s[2] == HASH160_SIZE)
@@ -121,7 +128,7 @@ pub(crate) fn program(s: &[u8], number: u8, size: u8) -> bool
 pub(crate) fn p2a(s: &[u8]) -> bool
     ensures { λ r. ⌜ r ≡ isPayToAnchor (now (s .entry)) ⌝ }
 {
-    if s.len() == 4 {
+    if s.len() == P2A_LEN {
         (s[0] == OP_PUSHNUM_1)
             & (s[1] == ANCHOR_SIZE)
             & (s[2] == ANCHOR_FIRST)

@@ -36,8 +36,12 @@ pub use judged::is_p2wsh;
 pub use judged::is_push_only;
 pub use judged::is_witness_program;
 
-// The bytes of a script code.
+// The bytes of a script code, and where the hash lies in it.
 const SCRIPT_CODE_SIZE: usize = 25;
+
+const HASH_START: usize = 3;
+
+const HASH_END: usize = 23;
 
 // A witness version, 0 to 16.
 pub enum Version {
@@ -155,13 +159,13 @@ fn write_script_code(script: &[u8], out: &mut [u8])
     out[0] = OP_DUP;
     out[1] = OP_HASH160;
     out[2] = HASH160_SIZE;
-    let mut i: usize = 3;
-    while i < 23 {
+    let mut i = HASH_START;
+    while i < HASH_END {
         out[i] = script[i - 1];
         i += 1;
     }
-    out[23] = OP_EQUALVERIFY;
-    out[24] = OP_CHECKSIG;
+    out[HASH_END] = OP_EQUALVERIFY;
+    out[HASH_END + 1] = OP_CHECKSIG;
 }
 
 // Writes the script code by which a P2WPKH script is spent, and answers its length; nothing for any other script. Refused with 1 for a script

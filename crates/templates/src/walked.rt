@@ -8,8 +8,6 @@ use walk::Found;
 use walk::Mode;
 ghost use mathlib.Core.Bool.{false};
 ghost use mathlib.Core.Path.{_≡_};
-ghost use Prim.Native.Nat.{_≤_};
-ghost use lib.ListN.{length};
 ghost use Rattle.laws.specs.Said.{answers};
 ghost use Rattle.opcodes.specs.Opcode.{numberOf};
 ghost use Rattle.walk.specs.Run.{walkFrom};

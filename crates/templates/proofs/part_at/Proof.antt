@@ -1,9 +1,8 @@
 -- `templates::part_at` meets its contract: what the place says lies within the script, and the part is taken there. Assumes nothing.
 use mathlib.Core.Path.{_≡_, refl}
-use Prim.Native.Nat.{_+_, _-_, _≤_}
+use Prim.Native.Nat.{_+_, _-_}
 use native.Mathlib.Omega.{arith}
 use borrow.Author.Needs.{needs}
-use lib.ListN.{length}
 use Rattle.templates.proofs.part_at.Statement.{statement}
 use Rattle.templates.proofs.part_at.Tie as tie
 

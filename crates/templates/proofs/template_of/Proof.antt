@@ -1,6 +1,6 @@
 -- `templates::template_of` meets its contract: each test that failed leaves the rest of the order, and the first that holds is the kind.
 -- Assumes nothing.
-use mathlib.Core.Path.{_≡_, refl, sym, _∙_}
+use mathlib.Core.Path.{refl, sym, _∙_}
 use mathlib.Core.List.{List}
 use Prim.Native.Nat.{ℕ}
 use borrow.Author.Needs.{needs}

@@ -3,7 +3,6 @@
 use mathlib.Core.Path.{_≡_}
 use Prim.Native.Nat.{_≤_, _-_}
 use native.Mathlib.Omega.{arith}
-use borrow.Author.Needs.{needs}
 use lib.ListN.{length, drop, length-set}
 use Rattle.laws.proofs.Filled.{filled}
 use Rattle.templates.specs.Fixed.{codeOf}
@@ -60,4 +59,4 @@ pub write-script-code-spec : {M : Type 1} → statement M
 write-script-code-spec =
     tie.close
     (tie.spec Inv-loop μ-loop (λ c. omega arith) (λ c. simp length-set (omega arith)) (λ c. simp length-set (omega arith)) loop-holds (λ c. omega arith)
-    (λ c. omega arith) slice-write-out-4 (λ c. omega arith) (λ c. omega arith) loop-again slice-write-out-5 slice-write-out-6 same-length returns)
+    (λ c. omega arith) slice-write-out-4 (λ c. omega arith) (λ c. omega arith) loop-again slice-write-out-5 (λ c. omega arith) slice-write-out-6 same-length returns)

@@ -1,5 +1,4 @@
 -- `templates::fixed::keyed` meets its contract: the length decides, and then the two bytes are compared. Assumes nothing.
-use mathlib.Core.Path.{_≡_}
 use Prim.Native.Nat.{_+_}
 use native.Mathlib.Omega.{arith}
 use borrow.Author.Needs.{needs}

@@ -1,6 +1,5 @@
 -- `templates::fixed::program` meets its contract: the length is that of such a program, and then the version decides. Assumes nothing.
-use mathlib.Core.Path.{_≡_, sym, ap, _∙_}
-use Prim.Native.Nat.{_+_}
+use mathlib.Core.Path.{sym, ap, _∙_}
 use native.Mathlib.Omega.{arith}
 use borrow.Author.Needs.{needs}
 use Rattle.opcodes.specs.Opcode.{saidCode}

@@ -1,5 +1,5 @@
 -- `templates::fixed::version` meets its contract: three tests settle the size, and the first byte tells the version. Assumes nothing.
-use mathlib.Core.Path.{_≡_, sym, _∙_}
+use mathlib.Core.Path.{sym, _∙_}
 use mathlib.Core.Bool.{and-false}
 use Prim.Native.Nat.{_+_}
 use native.Mathlib.Omega.{arith}

@@ -1,5 +1,5 @@
 -- `templates::walked::agreeing` meets its contract: the opcode's number is compared, where it has one. Assumes nothing.
-use mathlib.Core.Path.{_≡_, sym, ap, _∙_}
+use mathlib.Core.Path.{sym, ap, _∙_}
 use borrow.Author.Needs.{needs}
 use Rattle.opcodes.specs.Opcode.{saidCode}
 use Rattle.templates.specs.Walked.{agrees}

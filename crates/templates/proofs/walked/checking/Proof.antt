@@ -1,5 +1,5 @@
 -- `templates::walked::checking` meets its contract: the opcode at the cursor decides, and then whether the script ends. Assumes nothing.
-use mathlib.Core.Path.{_≡_, sym, ap, _∙_}
+use mathlib.Core.Path.{sym, ap, _∙_}
 use borrow.Author.Needs.{needs}
 use borrow.Author.Tests.{eq-eqb, ne-eqb}
 use Rattle.walk.proofs.Run.{turn-at}

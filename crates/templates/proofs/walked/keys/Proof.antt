@@ -1,17 +1,14 @@
 -- `templates::walked::keys` meets its contract. The loop's invariant: the keys that were counted, with those to come, are all, and what follows
 -- them is the same. The measure is what is left of the script. Assumes nothing.
 use mathlib.Core.Path.{_≡_, refl, sym, ap, _∙_}
-use mathlib.Core.Bool.{Bool, false, _&&_}
-use mathlib.Core.List.{List}
-use Prim.Native.Nat.{ℕ, suc, _+_, _-_, _≤_}
+use mathlib.Core.Bool.{false}
+use Prim.Native.Nat.{_+_, _-_, _≤_}
 use native.Mathlib.Omega.{arith}
 use borrow.Author.Needs.{needs}
 use lib.ListN.{length}
-use Rattle.laws.specs.Said.{Said}
-use Rattle.walk.specs.Walk.{Walked}
-use Rattle.walk.specs.Run.{stop, item, walkFrom}
+use Rattle.walk.specs.Run.{walkFrom}
 use Rattle.walk.proofs.Run.{turn-at, moves-at}
-use Rattle.templates.specs.Walked.{pushes, afterPushes, keysThen}
+use Rattle.templates.specs.Walked.{pushes, afterPushes}
 use Rattle.templates.proofs.Runs.{no-count, too-many, counted}
 use Rattle.templates.proofs.walked.keys.Statement.{statement}
 use Rattle.templates.proofs.walked.keys.Tie as tie

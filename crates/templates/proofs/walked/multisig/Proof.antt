@@ -1,11 +1,10 @@
 -- `templates::walked::multisig` meets its contract: a number opcode stands first, and the keys follow it. Assumes nothing.
-use mathlib.Core.Path.{_≡_, sym, ap, _∙_}
-use mathlib.Core.Bool.{Bool, false}
-use mathlib.Core.Option.{Option}
+use mathlib.Core.Path.{sym, ap, _∙_}
+use mathlib.Core.Bool.{Bool}
 use Prim.Native.Nat.{ℕ}
 use borrow.Author.Needs.{needs}
 use Rattle.opcodes.specs.Opcode.{saidCode, numberOf}
-use Rattle.walk.specs.Run.{Run, walkFrom}
+use Rattle.walk.specs.Run.{Run}
 use Rattle.walk.proofs.Run.{turn-at}
 use Rattle.templates.specs.Walked.{opcodeThen, numberThen, keysThen, isMultisig}
 use Rattle.templates.proofs.walked.multisig.Statement.{statement}
