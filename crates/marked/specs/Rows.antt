@@ -1,0 +1,103 @@
+-- What a definition says, as one row of a table: a word, and the numbers that stand beside it in document 01. Assumes nothing.
+use mathlib.Core.Bool.{Bool, true, false}
+use mathlib.Core.List.{List, [], _∷_, _++_}
+use Prim.Native.Nat.{ℕ, suc}
+use Prim.Native.String.{String}
+use lib.IntN.{ℤ, pos, negsuc}
+use lib.ListN.{take}
+use Rattle.laws.specs.Said.{Said, answers, refuses}
+use Rattle.opcodes.specs.Opcode.{lengthBytes}
+use Rattle.walk.specs.Walk.{Walked, end, opcode, push, sizeOf}
+use Rattle.walk.specs.Calls.{call}
+use Rattle.numbers.specs.ScriptNum.{serialize, scriptNum, nDefaultMaxNumSize}
+use Rattle.counts.specs.Count.{countSays}
+use Rattle.counts.specs.Dust.{dustSays}
+use Rattle.templates.specs.Kind.{Kind, p2pkh, p2sh, p2wpkh, p2wsh, p2tr, p2a, witness, p2pk, multisig, opreturn, other, kindOf}
+use Rattle.text.specs.Asm.{textOf}
+use Rattle.builder.specs.Builder.{Call}
+use Rattle.builder.specs.Lent.{Outcome, calls}
+
+abbrev pub Row : Type 0
+Row = String × List ℕ
+
+-- a refusal by its number and its values, else the answer's row
+abbrev pub said : {A : Type 0} → (A → Row) → Said A → Row
+said row (answers a) = row a
+said row (refuses number values) = ("refusal", number ∷ values)
+
+-- 'The walk': a push with place, length bytes of its form, body place and body length
+abbrev pub walkedRow : Walked → Row
+walkedRow end = ("end", [])
+walkedRow (opcode place code) = ("opcode", place ∷ code ∷ [])
+walkedRow (push place form body len) = ("push", place ∷ lengthBytes form ∷ body ∷ len ∷ [])
+
+abbrev pub sizeRow : Walked → Row
+sizeRow w = ("size", sizeOf w ∷ [])
+
+abbrev pub amountRow : ℕ → Row
+amountRow n = ("amount", n ∷ [])
+
+-- `negsuc n` is -(n + 1)
+abbrev pub numberRow : ℤ → Row
+numberRow (pos n) = ("number", n ∷ [])
+numberRow (negsuc n) = ("minus", suc n ∷ [])
+
+abbrev pub kindRow : Kind → Row
+kindRow p2pkh = ("p2pkh", [])
+kindRow p2sh = ("p2sh", [])
+kindRow p2wpkh = ("p2wpkh", [])
+kindRow p2wsh = ("p2wsh", [])
+kindRow p2tr = ("p2tr", [])
+kindRow p2a = ("p2a", [])
+kindRow witness = ("witness", [])
+kindRow p2pk = ("p2pk", [])
+kindRow multisig = ("multisig", [])
+kindRow opreturn = ("opreturn", [])
+kindRow other = ("other", [])
+
+abbrev pub bytesRow : List ℕ → Row
+bytesRow s = ("bytes", s)
+
+-- the call after n others, each given the cursor that the one before gave back
+abbrev pub plain : List ℕ → ℕ → Row
+plain s n = said walkedRow (call false s n)
+
+abbrev pub minimal : List ℕ → ℕ → Row
+minimal s n = said walkedRow (call true s n)
+
+-- the size of what the first call gives in a mode
+abbrev pub size : Bool → List ℕ → Row
+size mode s = said sizeRow (call mode s 0)
+
+abbrev pub kind : List ℕ → Row
+kind s = kindRow (kindOf s)
+
+abbrev pub dust : List ℕ → Row
+dust s = said amountRow (dustSays s)
+
+abbrev pub asm : List ℕ → Row
+asm s = bytesRow (textOf s)
+
+abbrev pub written : ℤ → Row
+written n = bytesRow (serialize n)
+
+-- read_scriptint, and read_scriptint_non_minimal
+abbrev pub strict : List ℕ → Row
+strict s = said numberRow (scriptNum nDefaultMaxNumSize true s)
+
+abbrev pub loose : List ℕ → Row
+loose s = said numberRow (scriptNum nDefaultMaxNumSize false s)
+
+abbrev pub accurate : List ℕ → Row
+accurate s = said amountRow (countSays true s)
+
+abbrev pub legacy : List ℕ → Row
+legacy s = said amountRow (countSays false s)
+
+-- the bytes that are used after a builder's call
+abbrev pub built : Outcome → Row
+built o = said (λ done. bytesRow (take (o .used) (o .buffer))) (o .said)
+
+-- a call after another, with more room behind the buffer
+abbrev pub then : Outcome → Call → List ℕ → Outcome
+then o call more = calls call (o .used) (o .remembered) (o .buffer ++ more)
