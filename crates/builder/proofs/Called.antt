@@ -11,7 +11,6 @@ use lib.ListN.{length, take, drop, set, length-append, take-append-drop}
 use lib.Seq.{sets, length-take-le, take-take}
 use Rattle.laws.specs.Choice.{if_then_else_}
 use Rattle.laws.specs.Said.{Said, answers, refuses}
-use Rattle.laws.proofs.Test.{by-test}
 use Rattle.refusal.specs.Refusal.{limit, saidRefusal}
 use Rattle.refusal.specs.declared.Refusal.{Refusal}
 use Rattle.builder.specs.Builder.{Call, appends, verifyForm, pushVerify, lastOpcode, takesOver}

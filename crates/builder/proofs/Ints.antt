@@ -2,9 +2,9 @@
 -- read back as `toZ w64 ..`. Assumes nothing.
 use mathlib.Core.Path.{_≡_, refl, sym, ap, ap₂, _∙_}
 use mathlib.Core.Bool.{Bool, true, false}
-use mathlib.Core.List.{List, [], _∷_, _++_}
-use mathlib.Core.Option.{Option, none, some}
-use Prim.Native.Nat.{ℕ, suc, _+_, _≤_, _<_}
+use mathlib.Core.List.{List, [], _++_}
+use mathlib.Core.Option.{none, some}
+use Prim.Native.Nat.{ℕ, _+_, _≤_, _<_}
 use native.Mathlib.Omega.{arith}
 use borrow.Author.Tests.{ltb-true, ltb-false, eq-eqb, ne-eqb, le-leb, lt-leb}
 use lib.Dec.{T}
@@ -12,11 +12,10 @@ use lib.IntN.{ℤ, pos, negsuc, natAbs}
 use lib.ListN.{length, take, drop}
 use lib.Seq.{take-at}
 use lib.Signed.{ltZ, nonNeg}
-use mir.Syntax.{w64, w8}
-use mir.Val.{SFits, Fits, toZ, ofZ}
-use mir.Facts.{toZ-ofZ}
+use mir.Syntax.{w64}
+use mir.Val.{SFits, ofZ}
 use Rattle.laws.specs.Choice.{if_then_else_}
-use Rattle.laws.specs.Said.{Said, answers, refuses}
+use Rattle.laws.specs.Said.{answers, refuses}
 use Rattle.laws.specs.Buffer.{writes, after}
 use Rattle.refusal.specs.Refusal.{numberOf, valuesOf, saidRefusal}
 use Rattle.refusal.specs.Answer.{saidCount}

@@ -1,11 +1,10 @@
 -- Document 01's W12 and its `05`, and that what was remembered wins over what a walk would say, computed from the definitions. Assumes nothing.
 use mathlib.Core.Path.{_≡_, refl}
-use mathlib.Core.Bool.{false}
 use mathlib.Core.List.{List, [], _∷_}
 use mathlib.Core.Option.{Option, none, some}
 use Prim.Native.Nat.{ℕ}
 use lib.IntN.{pos}
-use Rattle.laws.specs.Said.{Said, answers, refuses}
+use Rattle.laws.specs.Said.{answers, refuses}
 use Rattle.walk.specs.Script.{readLE, assign, sized, operand, getScriptOp}
 use Rattle.walk.specs.Walk.{walkSays, nextAt, notMinimal}
 use Rattle.walk.specs.Run.{walkFor, walkFrom}

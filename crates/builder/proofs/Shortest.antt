@@ -1,6 +1,5 @@
 -- A push uses the shortest length form: the chosen form can state the length, and no form that can has a shorter encoding. The more length bytes a
 -- form has, the more it can state. Assumes nothing.
-use mathlib.Core.Path.{_≡_}
 use mathlib.Core.List.{List}
 use Prim.Native.Nat.{ℕ, _≤_, _<_}
 use native.Mathlib.Omega.{arith}

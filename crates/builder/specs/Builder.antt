@@ -25,9 +25,11 @@ pub record State : Type 0 where
 abbrev pub Call : Type 0
 Call = State → Said State
 
+-- new bytes after the used ones, and what is remembered then
 abbrev pub appends : List ℕ → Option ℕ → Call
 appends new remembered st = answers (record { bytes = st .bytes ++ new; remembered = remembered })
 
+-- an opcode is one byte, and is remembered; any byte is taken, 0 to 78 too
 abbrev pub pushOpcode : ℕ → Call
 pushOpcode code = appends (code ∷ []) (some code)
 
@@ -53,17 +55,19 @@ abbrev pub pushNumber : Option ℕ → ℤ → Call
 pushNumber (some code) n st = pushOpcode code st
 pushNumber none n st = if isLeast n then refuses 6 [] else pushSlice (serialize n) st
 
+-- push_int; lock time and sequence are 32-bit integers pushed so
 unfoldable pub pushInt : ℤ → Call
 pushInt n = pushNumber (intOpcode n) n
 
--- OP_VERIFY, 0x69, or the verify form of the remembered opcode in its place
+-- the verify form of what is remembered, where it has one
 abbrev pub verifyForm : Option ℕ → Option ℕ
 verifyForm none = none
 verifyForm (some code) = verifyOf code
 
+-- OP_VERIFY is 0x69; a verify form takes the place of the last byte
 abbrev pub pushVerified : Option ℕ → Call
 pushVerified none st = pushOpcode 0x69 st
-pushVerified (some code) st = pushOpcode code (record { bytes = take (length (st .bytes) - 1) (st .bytes); remembered = none })
+pushVerified (some code) st = pushOpcode code (record { bytes = take (length (st .bytes) - 1) (st .bytes); remembered = st .remembered })
 
 -- 'Verify replaces a remembered opcode that has a verify form; else it appends 0x69'
 unfoldable pub pushVerify : Call
@@ -75,6 +79,7 @@ opcodeIn end = none
 opcodeIn (opcode place code) = some code
 opcodeIn (walk.push place form body len) = none
 
+-- the walk's last opcode, by the answer that ended the walk
 abbrev pub unlessRefused : Option ℕ × Said Walked → Option ℕ
 unlessRefused (last, answers w) = last
 unlessRefused (last, refuses number values) = none
@@ -83,6 +88,6 @@ unlessRefused (last, refuses number values) = none
 unfoldable pub lastOpcode : List ℕ → Option ℕ
 lastOpcode s = unlessRefused (fold (λ last w. opcodeIn w) none (walkFrom false s 0))
 
--- 'Bytes taken over as a start'
+-- 'Bytes taken over as a start remember' that
 abbrev pub takesOver : Call
 takesOver st = answers (record { bytes = st .bytes; remembered = lastOpcode (st .bytes) })

@@ -34,6 +34,7 @@ abbrev pub unless : {A : Type 0} → Said (Unit {0}) → Said A → Said A
 unless (answers done) said = said
 unless (refuses number values) said = refuses number values
 
+-- what the call builds, where it refuses nothing itself
 abbrev pub within : ℕ → Said State → Said State
 within room (answers st) = unless (builtSays (length (st .bytes)) room) (answers st)
 within room (refuses number values) = refuses number values
@@ -57,7 +58,7 @@ leaves (answers st) used remembered buffer =
 leaves (refuses number values) used remembered buffer =
     record { said = refuses number values; used = used; remembered = remembered; buffer = buffer }
 
--- a call by a builder that uses so many bytes of a buffer and remembers this
+-- a call by a builder that uses so many bytes of a buffer and remembers this: 1 and 13, the call's own refusal, 1 and 7
 unfoldable pub calls : Call → ℕ → Option ℕ → List ℕ → Outcome
 calls call used remembered buffer =
     leaves
@@ -69,5 +70,6 @@ abbrev pub shownIf : Said (Unit {0}) → ℕ → ℕ
 shownIf (answers done) used = used
 shownIf (refuses number values) used = 0
 
+-- as_bytes
 unfoldable pub shown : ℕ → Option ℕ → List ℕ → ℕ
 shown used remembered buffer = shownIf (builderSays used remembered buffer) used

@@ -243,10 +243,11 @@ impl Builder {
             };
         }
         put_push(buffer, used, code, width, body);
+        let size = used + head + body.len();
         Built {
             answer: Answer::Done,
             builder: Builder {
-                length: used + head + body.len(),
+                length: size,
                 remembered,
             },
         }
@@ -309,17 +310,17 @@ impl Builder {
     }
 
     // Appends an absolute lock time as a number.
-    pub fn push_lock_time(self, buffer: &mut [u8], n: u32) -> Built
-        ensures { λ r. ⌜ saidBuilt r (now (buffer .exit)) ≡ callsBy self (pushInt (pos n)) (now (buffer .entry)) ⌝ }
+    pub fn push_lock_time(self, buffer: &mut [u8], locktime: u32) -> Built
+        ensures { λ r. ⌜ saidBuilt r (now (buffer .exit)) ≡ callsBy self (pushInt (pos locktime)) (now (buffer .entry)) ⌝ }
     {
-        self.push_int(buffer, n as i64)
+        self.push_int(buffer, locktime as i64)
     }
 
     // Appends a sequence number as a number.
-    pub fn push_sequence(self, buffer: &mut [u8], n: u32) -> Built
-        ensures { λ r. ⌜ saidBuilt r (now (buffer .exit)) ≡ callsBy self (pushInt (pos n)) (now (buffer .entry)) ⌝ }
+    pub fn push_sequence(self, buffer: &mut [u8], sequence: u32) -> Built
+        ensures { λ r. ⌜ saidBuilt r (now (buffer .exit)) ≡ callsBy self (pushInt (pos sequence)) (now (buffer .entry)) ⌝ }
     {
-        self.push_int(buffer, n as i64)
+        self.push_int(buffer, sequence as i64)
     }
 
     // Puts the verify form of the remembered opcode in its place, where it has one, and else appends OP_VERIFY; remembers what it wrote.

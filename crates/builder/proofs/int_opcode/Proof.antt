@@ -1,12 +1,11 @@
 -- `builder::int_opcode` meets its contract: each arm of the match is a case of the definition. Assumes nothing.
-use mathlib.Core.Path.{_≡_, sym, ap, _∙_}
-use mathlib.Core.Bool.{true, false}
+use mathlib.Core.Path.{_≡_}
 use Prim.Native.Nat.{_+_, _<_}
 use native.Mathlib.Omega.{arith}
 use borrow.Author.Needs.{needs}
 use lib.Dec.{T}
-use lib.IntN.{pos, natAbs}
-use lib.Signed.{ltZ, nonNeg}
+use lib.IntN.{natAbs}
+use lib.Signed.{nonNeg}
 use mathlib.Core.Option.{some}
 use mir.Facts.{toZ-ofZ}
 use Rattle.builder.specs.Builder.{intOpcode}

@@ -1,8 +1,8 @@
 -- `builder::put_bytes` meets its contract. The loop's invariant: the buffer as it is, with what is left of the body stored from here on, is the
 -- buffer at the end. The measure is what is left of the body. Assumes nothing.
 use mathlib.Core.Path.{_≡_, refl, sym, ap, _∙_}
-use mathlib.Core.List.{List, [], _∷_}
-use Prim.Native.Nat.{ℕ, suc, _+_, _-_, _≤_}
+use mathlib.Core.List.{[]}
+use Prim.Native.Nat.{_+_, _-_, _≤_}
 use native.Mathlib.Nat.{add-zero, add-suc}
 use native.Mathlib.Numerals.{add-one}
 use native.Mathlib.Omega.{arith}

@@ -1,7 +1,6 @@
 -- `builder::put_le` meets its contract. The loop's invariant: the buffer as it is, with the bytes of `rest` stored from here on, is the buffer at
 -- the end. The measure is what is left of the width. Assumes nothing.
 use mathlib.Core.Path.{_≡_, refl, sym, ap, _∙_}
-use mathlib.Core.List.{List, [], _∷_}
 use Prim.Native.Nat.{ℕ, suc, _+_, _-_, _≤_}
 use native.Mathlib.Nat.{add-zero, sub-zero, add-suc}
 use native.Mathlib.Numerals.{add-one}

@@ -1,9 +1,8 @@
 -- `builder::Builder::push_lock_time` meets its contract: 32 bits are a number that is not negative. Assumes nothing.
-use mathlib.Core.Path.{_≡_, sym, ap, _∙_}
+use mathlib.Core.Path.{sym}
 use Prim.Native.Nat.{_<_, _^_}
 use native.Mathlib.Omega.{arith}
 use borrow.Author.Needs.{needs}
-use lib.IntN.{pos}
 use mir.Syntax.{w64}
 use mir.Facts.{toZ-pos}
 use Rattle.builder.proofs.Builder.push_lock_time.Statement.{statement}
@@ -13,7 +12,7 @@ returns : tie.Need-returns
 returns c =
     let p = c .before .before in
     let s = p .before .before .before in
-    let h : s .args .n < 2 ^ 63 = omega arith in
+    let h : s .args .locktime < 2 ^ 63 = omega arith in
     rw (sym (toZ-pos w64 h)) (p .push-int .ensures)
 
 pub push-lock-time-spec : {M : Type 1} → statement M

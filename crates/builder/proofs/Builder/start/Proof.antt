@@ -1,5 +1,5 @@
 -- `builder::Builder::start` meets its contract: by what `check` answered. Assumes nothing.
-use mathlib.Core.Path.{_≡_, refl, sym, ap, _∙_}
+use mathlib.Core.Path.{_≡_, sym}
 use mathlib.Core.Option.{none}
 use borrow.Author.Needs.{needs}
 use lib.Seq.{length-take-le}

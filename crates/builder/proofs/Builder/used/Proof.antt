@@ -1,12 +1,8 @@
 -- `builder::Builder::used` meets its contract. Assumes nothing.
-use mathlib.Core.Path.{_≡_, refl, sym, ap, _∙_}
 use native.Mathlib.Omega.{arith}
 use borrow.Author.Needs.{needs}
-use Rattle.laws.specs.Said.{answers}
-use Rattle.refusal.specs.Refusal.{saidRefusal}
 use Rattle.opcodes.specs.Opcode.{saidCode}
-use Rattle.builder.specs.Lent.{builderSays, shown}
-use Rattle.builder.specs.Answer.{saidAnswer}
+use Rattle.builder.specs.Lent.{shown}
 use Rattle.builder.proofs.Called.{good-builder, good-used, none-shown}
 use Rattle.builder.proofs.Builder.used.Statement.{statement}
 use Rattle.builder.proofs.Builder.used.Tie as tie
