@@ -243,10 +243,11 @@ impl Builder {
             };
         }
         put_push(buffer, used, code, width, body);
+        let size = used + head + body.len();
         Built {
             answer: Answer::Done,
             builder: Builder {
-                length: used + head + body.len(),
+                length: size,
                 remembered,
             },
         }

@@ -75,11 +75,11 @@ module _ (f : tie.After-enum-told2) where
 put-push-requires : tie.Need-put-push-requires
 put-push-requires c κs = omega (arith, room (c .before))
 
-add-t16 : tie.Need-add-t16
-add-t16 c = omega (arith, room (c .before .before .before .before))
+add-size : tie.Need-add-size
+add-size c = omega (arith, room (c .before .before .before .before))
 
-add-t23 : tie.Need-add-t23
-add-t23 c = omega (arith, room (c .before .before .before .before))
+add-size-2 : tie.Need-add-size-2
+add-size-2 c = omega (arith, room (c .before .before .before .before))
 
 returns-3 : tie.Need-returns-3
 returns-3 c =
@@ -92,4 +92,4 @@ pub append-spec : {M : Type 1} → statement M
 append-spec =
     tie.close
     (tie.spec (λ c κs. search needs) (λ c. search needs) (λ c. search needs) returns (λ c. search needs) (λ c. search needs) fits-requires (λ c. search needs)
-    (λ c. search needs) returns-2 (λ c. search needs) put-push-requires add-t16 add-t23 (λ c. search needs) returns-3)
+    (λ c. search needs) returns-2 (λ c. search needs) put-push-requires add-size add-size-2 (λ c. search needs) returns-3)
