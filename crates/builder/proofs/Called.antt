@@ -20,7 +20,7 @@ use Rattle.builder.specs.declared.Answer.{Answer}
 use Rattle.builder.specs.declared.Answer.the-variants.{Done, Refused}
 use Rattle.builder.proofs.Stored.{stored}
 
-passes : (b : Bool) (number : ℕ) (values : List ℕ) (x : Said (Unit {0})) → (if b then refuses number values else x) ≡ answers tt
+pub passes : (b : Bool) (number : ℕ) (values : List ℕ) (x : Said (Unit {0})) → (if b then refuses number values else x) ≡ answers tt
     → (b ≡ false) × (x ≡ answers tt)
 passes true number values x e = absurd (let z : _≡_ {A = ℕ} 0 1 = cc in omega arith)
 passes false number values x e = (refl, e)

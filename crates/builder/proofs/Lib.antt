@@ -4,4 +4,5 @@ pub mod Ints
 pub mod Same
 pub mod Settled
 pub mod Shortest
+pub mod Onward
 pub mod Marked

@@ -45,18 +45,19 @@ pub struct Builder {
     pub remembered: Code,
 }
 
+// Whether a call did what it was asked.
 pub enum Answer {
     Done,
     Refused(Refusal),
 }
 
-// What a call answers, and the builder for the next one. After a refusal it is the builder that the call got.
+// What a call answers, and the builder for the next one. After a refusal that is the builder that the call got, and the buffer is as it was.
 pub struct Built {
     pub answer: Answer,
     pub builder: Builder,
 }
 
-// Whether a script of so many used bytes, with a head and a body after them, is within the limit and fits a buffer of so many.
+// Refused with 1 where so many used bytes with a head and a body after them exceed the limit, and with 7 where they exceed the room.
 fn fits(used: usize, head: usize, body: usize, room: usize) -> Answer
     requires { ⌜ (used ≤ limit) × (head ≤ 5) ⌝ }
     ensures { λ r. ⌜ saidAnswer r ≡ builtSays (used + head + body) room ⌝ }
@@ -224,7 +225,7 @@ impl Builder {
         remembered: Code,
     ) -> Built
         requires { ⌜ width ≤ 4 ⌝ }
-        ensures { λ r. ⌜ saidBuilt r (now (buffer .exit)) ≡ calls (appends (code ∷ (writeLE width (length (now (body .entry))) ++ now (body .entry))) (saidCode remembered)) (self .length) (saidCode (self .remembered)) (now (buffer .entry)) ⌝ }
+        ensures { λ r. ⌜ saidBuilt r (now (buffer .exit)) ≡ callsBy self (appends (code ∷ (writeLE width (length (now (body .entry))) ++ now (body .entry))) (saidCode remembered)) (now (buffer .entry)) ⌝ }
     {
         let given = self.check(buffer);
         if let Answer::Refused(why) = given {
@@ -253,13 +254,14 @@ impl Builder {
         }
     }
 
-    // Appends an opcode byte and remembers it.
+    // Appends an opcode byte, any of 0 to 255, and remembers it. Refused as `append` is: 1, 13, 1 on what is built, 7.
     pub fn push_opcode(self, buffer: &mut [u8], code: u8) -> Built
         ensures { λ r. ⌜ saidBuilt r (now (buffer .exit)) ≡ callsBy self (pushOpcode code) (now (buffer .entry)) ⌝ }
     {
         self.append(buffer, code, 0, b"", Code::Is(code))
     }
-    // Appends a push of the body in the shortest length form, and remembers nothing.
+
+    // Appends a push of the body in the shortest length form, never a number opcode, and remembers nothing. Refused with 1, 13, 1, 7.
     pub fn push_slice(self, buffer: &mut [u8], body: &[u8]) -> Built
         ensures { λ r. ⌜ saidBuilt r (now (buffer .exit)) ≡ callsBy self (pushSlice (now (body .entry))) (now (buffer .entry)) ⌝ }
     {
@@ -276,7 +278,7 @@ impl Builder {
         self.append(buffer, OP_PUSHDATA4, 4, body, Code::Nothing)
     }
 
-    // Refuses with the builder's own refusal, if it has one, and else with this.
+    // Refuses with what `check` says, if it refuses, and else with this; the builder is handed back as it came.
     fn refuse(self, buffer: &[u8], why: Refusal) -> Built
         ensures { λ r. ⌜ saidBuilt r (now (buffer .entry)) ≡ callsBy self (λ st. saidRefusal why) (now (buffer .entry)) ⌝ }
     {
@@ -293,7 +295,7 @@ impl Builder {
         }
     }
 
-    // Appends a number: its opcode for -1 to 16, and remembers it; else a push of its bytes. -2^63 is refused with 6.
+    // Appends a number: its opcode for -1 to 16, remembered, and else a push of its bytes. Refused with 1, 13, 6 for -2^63, 1, 7.
     pub fn push_int(self, buffer: &mut [u8], n: i64) -> Built
         ensures { λ r. ⌜ saidBuilt r (now (buffer .exit)) ≡ callsBy self (pushInt n) (now (buffer .entry)) ⌝ }
     {
@@ -309,21 +311,22 @@ impl Builder {
         }
     }
 
-    // Appends an absolute lock time as a number.
+    // Appends an absolute lock time as a number. Refused with 1, 13, 1, 7.
     pub fn push_lock_time(self, buffer: &mut [u8], locktime: u32) -> Built
         ensures { λ r. ⌜ saidBuilt r (now (buffer .exit)) ≡ callsBy self (pushInt (pos locktime)) (now (buffer .entry)) ⌝ }
     {
         self.push_int(buffer, locktime as i64)
     }
 
-    // Appends a sequence number as a number.
+    // Appends a sequence number as a number. Refused with 1, 13, 1, 7.
     pub fn push_sequence(self, buffer: &mut [u8], sequence: u32) -> Built
         ensures { λ r. ⌜ saidBuilt r (now (buffer .exit)) ≡ callsBy self (pushInt (pos sequence)) (now (buffer .entry)) ⌝ }
     {
         self.push_int(buffer, sequence as i64)
     }
 
-    // Puts the verify form of the remembered opcode in its place, where it has one, and else appends OP_VERIFY; remembers what it wrote.
+    // Puts the verify form of the remembered opcode in its place, where it has one, and else appends OP_VERIFY; remembers what it wrote. Refused
+    // with 1, 13 and, where it appends, 1 on what is built and 7.
     pub fn push_verify(self, buffer: &mut [u8]) -> Built
         ensures { λ r. ⌜ saidBuilt r (now (buffer .exit)) ≡ callsBy self pushVerify (now (buffer .entry)) ⌝ }
     {
