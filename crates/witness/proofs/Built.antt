@@ -1,7 +1,8 @@
 -- What is built is a witness script of that version and program. Assumes nothing.
-use mathlib.Core.Path.{_≡_, refl, sym}
+use mathlib.Core.Path.{_≡_, refl, sym, ap}
 use mathlib.Core.Bool.{true, false, _&&_, _||_}
 use mathlib.Core.List.{List}
+use mathlib.Core.Option.{some}
 use Prim.Native.Nat.{ℕ, suc, _+_, _-_, _≤_, _<_}
 use native.Mathlib.Omega.{arith}
 use borrow.Author.Tests.{le-ltb, le-leb, eq-eqb, ne-eqb, eqb-true, eqb-false}
@@ -11,7 +12,8 @@ use Rattle.laws.specs.Choice.{if_then_else_}
 use Rattle.laws.specs.Buffer.{writes}
 use Rattle.laws.specs.Witness.{isWitnessProgram}
 use Rattle.laws.proofs.Test.{by-test}
-use Rattle.witness.specs.Program.{versionByte, wrongV0, witnessBytes, witnessSays, versionOf, programOf}
+use Rattle.templates.specs.Fixed.{versionOf, witnessVersion}
+use Rattle.witness.specs.Program.{versionByte, wrongV0, witnessBytes, witnessSays, programOf}
 
 pub bytes-length : (version : ℕ) (program : List ℕ) → length (witnessBytes version program) ≡ length program + 2
 unfolding witnessBytes
@@ -54,3 +56,11 @@ built-is-witness version program v l m =
       version-is = b .1;
       program-is = refl;
     }
+
+-- `templates::witness_version` finds that version again.
+pub found-again : (version : ℕ) (program : List ℕ) → version ≤ 16 → 2 ≤ length program → length program ≤ 40
+    → witnessVersion (witnessBytes version program) ≡ some version
+unfolding witnessVersion
+found-again version program v l m =
+    let b = built-is-witness version program v l m in
+    rw (b .witness) (ap some (b .version-is))

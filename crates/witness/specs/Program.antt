@@ -1,9 +1,9 @@
 -- A witness program as a script: BIP 141, 'Witness program', and document 01, 'Witness program'. Assumes nothing.
 use mathlib.Core.Bool.{Bool, not, _&&_, _||_}
 use mathlib.Core.List.{List, [], _∷_}
-use Prim.Native.Nat.{ℕ, _+_, _-_}
+use Prim.Native.Nat.{ℕ, _+_}
 use lib.Dec.{ltb, eqb}
-use lib.ListN.{length, getD, drop}
+use lib.ListN.{length, drop}
 use Rattle.laws.specs.Choice.{if_then_else_}
 use Rattle.laws.specs.Said.{Said, refuses}
 use Rattle.laws.specs.Buffer.{writes}
@@ -28,9 +28,6 @@ witnessSays version program room =
     else if wrongV0 version (length program) then refuses 11 []
     else writes (witnessBytes version program) room
 
--- what is read of a witness script: the version that its first byte states, and the bytes after the length
-abbrev pub versionOf : List ℕ → ℕ
-versionOf s = if eqb (getD s 0 0) 0 then 0 else getD s 0 0 - 0x50
-
+-- the bytes after the version and the length
 abbrev pub programOf : List ℕ → List ℕ
 programOf s = drop 2 s
