@@ -1,0 +1,4 @@
+pub mod Front
+pub mod Handing
+pub mod Advancing
+pub mod Shown

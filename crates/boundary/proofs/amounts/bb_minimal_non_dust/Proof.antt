@@ -1,0 +1,14 @@
+-- `boundary::amounts::bb_minimal_non_dust` meets its contract: what the entry says is handed over. Assumes nothing.
+use borrow.Author.Needs.{needs}
+use Rattle.boundary.specs.Handed.{one}
+use Rattle.boundary.proofs.Handing.{says-as}
+use Rattle.boundary.proofs.amounts.bb_minimal_non_dust.Statement.{statement}
+use Rattle.boundary.proofs.amounts.bb_minimal_non_dust.Tie as tie
+
+returns : tie.Need-returns
+returns c =
+    says-as 1 one _ (c .before .before .dust .ensures) (c .before .before .before .before .minimal-non-dust .ensures)
+
+pub bb-minimal-non-dust-spec : {M : Type 1} → statement M
+bb-minimal-non-dust-spec =
+    tie.close (tie.spec (λ c κs. search needs) (λ c κs. search needs) (λ c. search needs) returns)

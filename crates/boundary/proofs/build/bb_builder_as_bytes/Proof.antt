@@ -1,0 +1,28 @@
+-- `boundary::build::bb_builder_as_bytes` meets its contract. Assumes nothing.
+use mathlib.Core.Path.{ap, _∙_}
+use Rattle.laws.specs.Said.{answers}
+use Rattle.opcodes.specs.Opcode.{saidCode}
+use Rattle.builder.specs.Lent.{shown}
+use Rattle.boundary.specs.Handed.{one}
+use Rattle.boundary.proofs.Handing.{says-as}
+use Rattle.boundary.proofs.Shown.{shown-length}
+use borrow.Author.Needs.{needs}
+use Rattle.boundary.proofs.build.bb_builder_as_bytes.Statement.{statement}
+use Rattle.boundary.proofs.build.bb_builder_as_bytes.Tie as tie
+
+-- src/build.rt:210:17
+-- src/build.rt:210:9
+-- src/build.rt:211:5
+-- src/build.rt:201:1
+-- src/build.rt:201:1
+returns : tie.Need-returns
+returns c =
+    let a = c .before .before .before .before in
+    let b = a .before .builder-of .ensures in
+    let s = a .before .before .before .before in
+    let buffer = s .args .buffer .now in
+    says-as 1 one _ (c .before .before .count .ensures) (ap answers (shown-length _ _ buffer (a .as-bytes .ensures .bytes) ∙ ap (λ n. shown n (saidCode (a .before .builder-of .result .remembered)) buffer) (b .0) ∙ ap (λ m. shown (s .args .used) m buffer) (b .1)))
+
+pub bb-builder-as-bytes-spec : {M : Type 1} → statement M
+bb-builder-as-bytes-spec =
+    tie.close (tie.spec (λ c κs. search needs) (λ c κs. search needs) (λ c κs. search needs) (λ c. search needs) returns)

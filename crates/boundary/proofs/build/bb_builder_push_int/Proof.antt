@@ -1,0 +1,36 @@
+-- `boundary::build::bb_builder_push_int` meets its contract: what the call leaves is handed over. Assumes nothing.
+use mathlib.Core.Path.{ap, _∙_}
+use mir.Facts.{toZ-ofZ}
+use Rattle.builder.specs.Answer.{callsBy}
+use Rattle.builder.specs.Builder.{pushInt}
+use Rattle.builder.specs.Lent.{Outcome}
+use Rattle.boundary.proofs.Handing.{builds-short, builds-as, calls-as, kept, changed}
+use borrow.Author.Needs.{needs}
+use Rattle.boundary.proofs.build.bb_builder_push_int.Statement.{statement}
+use Rattle.boundary.proofs.build.bb_builder_push_int.Tie as tie
+
+-- src/build.rt:139:9
+returns : tie.Need-returns
+returns c =
+    (builds-short _ _ (c .if1 .taken), kept _ _ (c .if1 .taken))
+
+-- src/build.rt:141:11
+-- src/build.rt:141:11
+-- src/build.rt:141:5
+-- src/build.rt:128:1
+-- src/build.rt:128:1
+-- src/build.rt:128:1
+returns-2 : tie.Need-returns-2
+returns-2 c =
+    let d = c .before .before in
+    let p = d .before .before .before .before in
+    let b = p .before .before in
+    let k = b .before in
+    let s = k .before .before .before in
+    let e = p .push-int .ensures ∙ ap (λ n. callsBy (b .builder-of .result) (pushInt n) (s .args .buffer .now)) (toZ-ofZ (s .fits .n)) ∙ calls-as (pushInt (s .args .n)) (s .args .buffer .now) (b .builder-of .ensures .0) (b .builder-of .ensures .1) in
+    (builds-as _ (d .built .ensures _) e, changed _ _ (k .if1 .left) (ap (λ (o : Outcome). o .buffer) e))
+
+pub bb-builder-push-int-spec : {M : Type 1} → statement M
+bb-builder-push-int-spec =
+    tie.close
+    (tie.spec returns (λ c κs. search needs) (λ c κs. search needs) (λ c κs. search needs) (λ c. search needs) (λ c. search needs) returns-2)

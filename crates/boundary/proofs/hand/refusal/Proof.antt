@@ -1,0 +1,34 @@
+-- `boundary::hand::refusal` meets its contract: a value is stored where there is one. Assumes nothing.
+use mathlib.Core.Path.{sym, ap, _∙_}
+use lib.Seq.{sets}
+use borrow.Author.Needs.{needs}
+use Rattle.boundary.specs.Steps.{saidValue}
+use Rattle.boundary.proofs.hand.refusal.Statement.{statement}
+use Rattle.boundary.proofs.hand.refusal.Tie as tie
+
+-- src/hand.rt:63:9
+-- src/hand.rt:64:9
+-- src/hand.rt:66:19
+-- src/hand.rt:67:13
+-- src/hand.rt:67:13
+-- src/hand.rt:70:27
+-- src/hand.rt:59:1
+returns : tie.Need-returns
+returns c =
+    let s = c .before .before .before .before .before .before in (
+      c .before .before .before .before .number .ensures,
+      ap (sets (s .args .values .now) (s .args .at)) (sym (ap saidValue (c .before .value .given .1)) ∙ c .before .before .before .value-of .ensures),
+    )
+
+returns-2 : tie.Need-returns-2
+returns-2 c =
+    let s = c .before .before .before .before .before in (
+      c .before .before .before .number .ensures,
+      ap (sets (s .args .values .now) (s .args .at)) (sym (ap saidValue (c .enum-told .given .1)) ∙ c .before .before .value-of .ensures),
+    )
+
+pub refusal-spec : {M : Type 1} → statement M
+refusal-spec =
+    tie.close
+    (tie.spec (λ c κs. search needs) (λ c κs. search needs) (λ c. search needs) (λ c. search needs) (λ c. search needs) (λ c. search needs)
+    (λ c. search needs) returns returns-2)

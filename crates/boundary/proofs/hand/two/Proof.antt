@@ -1,0 +1,24 @@
+-- `boundary::hand::two` meets its contract. Assumes nothing.
+use mathlib.Core.List.{[], _∷_}
+use borrow.Author.Needs.{needs}
+use Rattle.boundary.proofs.Front.{front}
+use Rattle.boundary.proofs.Handing.{gives-short, gives-row}
+use Rattle.boundary.proofs.hand.two.Statement.{statement}
+use Rattle.boundary.proofs.hand.two.Tie as tie
+
+-- src/hand.rt:149:9
+returns : tie.Need-returns
+returns c =
+    gives-short _ _ (c .if1 .taken)
+
+-- src/hand.rt:151:5
+-- src/hand.rt:152:5
+-- src/hand.rt:145:1
+-- src/hand.rt:145:1
+returns-2 : tie.Need-returns-2
+returns-2 c =
+    gives-row _ _ (c .if1 .left) (front (_ ∷ (_ ∷ [])) (c .before .args .values .now) (c .if1 .left))
+
+pub two-spec : {M : Type 1} → statement M
+two-spec =
+    tie.close (tie.spec returns (λ c. search needs) (λ c. search needs) (λ c. search needs) returns-2)

@@ -1,0 +1,25 @@
+-- `boundary::steps::bb_body` meets its contract. Assumes nothing.
+use mathlib.Core.Path.{ap, _∙_}
+use mathlib.Core.List.{[], _∷_}
+use Rattle.walk.specs.Walk.{walkSays}
+use Rattle.walk.specs.Part.{bodyPlace, bodyLen}
+use Rattle.boundary.proofs.Handing.{gives-as}
+use borrow.Author.Needs.{needs}
+use Rattle.boundary.proofs.steps.bb_body.Statement.{statement}
+use Rattle.boundary.proofs.steps.bb_body.Tie as tie
+
+-- src/steps.rt:130:46
+-- src/steps.rt:130:9
+-- src/steps.rt:132:5
+-- src/steps.rt:126:1
+-- src/steps.rt:126:1
+returns : tie.Need-returns
+returns c =
+    let n = c .before .before .before .before in
+    let m = n .before .mode-of .ensures in
+    let s = n .before .before .before .before in
+    gives-as 2 _ (c .before .before .body-of .ensures) (ap (λ s. bodyPlace s ∷ (bodyLen s ∷ [])) (n .next .ensures .0 ∙ ap (λ b. walkSays b (s .args .script .now) (s .args .at)) m))
+
+pub bb-body-spec : {M : Type 1} → statement M
+bb-body-spec =
+    tie.close (tie.spec (λ c κs. search needs) (λ c κs. search needs) (λ c κs. search needs) (λ c. search needs) returns)

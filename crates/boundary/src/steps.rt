@@ -1,0 +1,172 @@
+// The walk.
+use crate::hand;
+use crate::hand::NO_ROOM;
+use refusal::Counted;
+use walk::Cursor;
+use walk::Found;
+use walk::Mode;
+use walk::Stepped;
+ghost use mathlib.Core.Path.{_≡_};
+ghost use mathlib.Core.List.{[], _∷_};
+ghost use Prim.Native.Nat.{_≤_};
+ghost use lib.Seq.{sets};
+ghost use lib.ListN.{length, getD};
+ghost use Rattle.laws.specs.Said.{answers};
+ghost use Rattle.laws.specs.Buffer.{after};
+ghost use Rattle.walk.specs.Walk.{walkSays, nextAt};
+ghost use Rattle.walk.specs.Part.{bodyPlace, bodyLen};
+ghost use Rattle.walk.specs.Places.{placesOf, positionsSay};
+ghost use Rattle.walk.specs.Answer.{isMinimal, saidFound};
+ghost use Rattle.boundary.specs.Handed.{handed, says, gives, steps, advances, movedTo, unlessShort, one, minimalOf};
+
+// 0 is plain, any other number minimal.
+fn mode_of(mode: u32) -> Mode
+    ensures { λ r. ⌜ isMinimal r ≡ minimalOf mode ⌝ }
+{
+    if mode == 0 {
+        Mode::Plain
+    } else {
+        Mode::Minimal
+    }
+}
+
+// Four values, stored.
+fn put_four(values: &mut [u64], a: u64, b: u64, c: u64, d: u64)
+    requires { ⌜ 6 ≤ length (now values) ⌝ }
+    ensures { λ _. ⌜ now (values .exit) ≡ sets (now (values .entry)) 0 (a ∷ (b ∷ (c ∷ (d ∷ [])))) ⌝ }
+{
+    values[0] = a;
+    values[1] = b;
+    values[2] = c;
+    values[3] = d;
+}
+
+// Two values behind four, stored.
+fn put_two(values: &mut [u64], e: u64, f: u64)
+    requires { ⌜ 6 ≤ length (now values) ⌝ }
+    ensures { λ _. ⌜ now (values .exit) ≡ sets (now (values .entry)) 4 (e ∷ (f ∷ [])) ⌝ }
+{
+    values[4] = e;
+    values[5] = f;
+}
+
+// The place for the next call, and behind it what the walk found.
+fn step(answer: Stepped, values: &mut [u64]) -> u32
+    ensures { λ r. ⌜ handed r (now (values .exit)) ≡ steps (answer .next .at) (saidFound (answer .found)) (now (values .entry)) ⌝ }
+{
+    if values.len() < 6 {
+        return NO_ROOM;
+    }
+    let next = answer.next;
+    let found = answer.found;
+    let to = next.at as u64;
+    match found {
+        Found::End => {
+            values[0] = to;
+            values[1] = 0;
+            0
+        }
+        Found::Opcode { place, code } => {
+            put_four(values, to, 1, place as u64, code as u64);
+            0
+        }
+        Found::Push {
+            place,
+            form,
+            body,
+            len,
+        } => {
+            let k = opcodes::length_bytes(form);
+            put_four(values, to, 2, place as u64, k as u64);
+            put_two(values, body as u64, len as u64);
+            0
+        }
+        Found::Refused(why) => {
+            values[0] = to;
+            hand::refusal(why, values, 1)
+        }
+    }
+}
+
+// The cursor at a script's front.
+#[no_mangle]
+pub extern "C" fn bb_cursor_new(values: &mut [u64]) -> u32
+    ensures { λ r. ⌜ handed r (now (values .exit)) ≡ says 1 one (answers 0) (now (values .entry)) ⌝ }
+{
+    hand::count(Counted::Count(Cursor::new().at), values)
+}
+
+// What stands at a place.
+#[no_mangle]
+pub extern "C" fn bb_next(script: &[u8], at: usize, mode: u32, values: &mut [u64]) -> u32
+    ensures { λ r. ⌜ handed r (now (values .exit)) ≡ steps (nextAt (minimalOf mode) (now (script .entry)) at) (walkSays (minimalOf mode) (now (script .entry)) at) (now (values .entry)) ⌝ }
+{
+    let stepped = Cursor { at }.next(script, mode_of(mode));
+    step(stepped, values)
+}
+
+// The body of a push, as its place and length; nothing at the front for all else.
+fn body_of(answer: Found, values: &mut [u64]) -> u32
+    ensures { λ r. ⌜ handed r (now (values .exit)) ≡ gives 2 (bodyPlace (saidFound answer) ∷ (bodyLen (saidFound answer) ∷ [])) (now (values .entry)) ⌝ }
+{
+    match answer {
+        Found::Push {
+            place: _,
+            form: _,
+            body,
+            len,
+        } => hand::two(body, len, values),
+        Found::End => hand::two(0, 0, values),
+        Found::Opcode { place: _, code: _ } => hand::two(0, 0, values),
+        Found::Refused(_) => hand::two(0, 0, values),
+    }
+}
+
+// The body of the push at a place, as a part.
+#[no_mangle]
+pub extern "C" fn bb_body(script: &[u8], at: usize, mode: u32, values: &mut [u64]) -> u32
+    ensures { λ r. ⌜ handed r (now (values .exit)) ≡ gives 2 (bodyPlace (walkSays (minimalOf mode) (now (script .entry)) at) ∷ (bodyLen (walkSays (minimalOf mode) (now (script .entry)) at) ∷ [])) (now (values .entry)) ⌝ }
+{
+    let stepped = Cursor { at }.next(script, mode_of(mode));
+    let answer = stepped.found;
+    body_of(answer, values)
+}
+
+// What stands at a lent place, which is then moved on.
+#[no_mangle]
+pub extern "C" fn bb_advance(
+    cursor: &mut [u64],
+    script: &[u8],
+    mode: u32,
+    values: &mut [u64],
+) -> u32
+    ensures { λ r. ⌜ (handed r (now (values .exit)) ≡ advances (now (cursor .entry)) (nextAt (minimalOf mode) (now (script .entry)) (getD (now (cursor .entry)) 0 0)) (walkSays (minimalOf mode) (now (script .entry)) (getD (now (cursor .entry)) 0 0)) (now (values .entry))) × (now (cursor .exit) ≡ movedTo (nextAt (minimalOf mode) (now (script .entry)) (getD (now (cursor .entry)) 0 0)) (now (cursor .entry)) (now (values .entry))) ⌝ }
+{
+    if cursor.len() < 1 {
+        return NO_ROOM;
+    }
+    if values.len() < 6 {
+        return NO_ROOM;
+    }
+    let at = cursor[0] as usize;
+    let stepped = Cursor { at }.next(script, mode_of(mode));
+    let next = stepped.next;
+    cursor[0] = next.at as u64;
+    step(stepped, values)
+}
+
+// Every instruction's place, in a lent table.
+#[no_mangle]
+pub extern "C" fn bb_positions(
+    script: &[u8],
+    mode: u32,
+    table: &mut [u32],
+    values: &mut [u64],
+) -> u32
+    ensures { λ r. ⌜ (handed r (now (values .exit)) ≡ says 1 one (positionsSay (minimalOf mode) (now (script .entry)) (length (now (table .entry)))) (now (values .entry))) × (now (table .exit) ≡ unlessShort 1 (length (now (values .entry))) (after (positionsSay (minimalOf mode) (now (script .entry)) (length (now (table .entry)))) (placesOf (minimalOf mode) (now (script .entry))) (now (table .entry))) (now (table .entry))) ⌝ }
+{
+    if values.len() < 1 {
+        return NO_ROOM;
+    }
+    hand::count(walk::positions(script, mode_of(mode), table), values)
+}

@@ -1,0 +1,74 @@
+// What is written into a lent buffer.
+use crate::hand;
+use crate::hand::NO_ROOM;
+ghost use mathlib.Core.Path.{_≡_};
+ghost use lib.ListN.{length};
+ghost use Rattle.laws.specs.Buffer.{writes, after};
+ghost use Rattle.opcodes.specs.Names.{nameOf};
+ghost use Rattle.numbers.specs.ScriptNum.{serialize};
+ghost use Rattle.numbers.specs.Answer.{writeSays};
+ghost use Rattle.templates.specs.Fixed.{scriptCode};
+ghost use Rattle.templates.specs.Says.{codeSays};
+ghost use Rattle.text.specs.Asm.{textOf, asmSays};
+ghost use Rattle.witness.specs.Program.{witnessBytes, witnessSays};
+ghost use Rattle.boundary.specs.Handed.{handed, says, unlessShort, one, maybe};
+
+// The name of an opcode.
+#[no_mangle]
+pub extern "C" fn bb_write_name(code: u8, out: &mut [u8], values: &mut [u64]) -> u32
+    ensures { λ r. ⌜ (handed r (now (values .exit)) ≡ says 1 one (writes (nameOf code) (length (now (out .entry)))) (now (values .entry))) × (now (out .exit) ≡ unlessShort 1 (length (now (values .entry))) (after (writes (nameOf code) (length (now (out .entry)))) (nameOf code) (now (out .entry))) (now (out .entry))) ⌝ }
+{
+    if values.len() < 1 {
+        return NO_ROOM;
+    }
+    hand::count(opcodes::write_name(code, out), values)
+}
+
+// A number in the fewest bytes.
+#[no_mangle]
+pub extern "C" fn bb_write_scriptint(n: i64, out: &mut [u8], values: &mut [u64]) -> u32
+    ensures { λ r. ⌜ (handed r (now (values .exit)) ≡ says 1 one (writeSays n (length (now (out .entry)))) (now (values .entry))) × (now (out .exit) ≡ unlessShort 1 (length (now (values .entry))) (after (writeSays n (length (now (out .entry)))) (serialize n) (now (out .entry))) (now (out .entry))) ⌝ }
+{
+    if values.len() < 1 {
+        return NO_ROOM;
+    }
+    hand::count(numbers::write_scriptint(n, out), values)
+}
+
+// The script code of a P2WPKH script.
+#[no_mangle]
+pub extern "C" fn bb_p2wpkh_script_code(script: &[u8], out: &mut [u8], values: &mut [u64]) -> u32
+    ensures { λ r. ⌜ (handed r (now (values .exit)) ≡ says 2 (maybe one) (codeSays (now (script .entry)) (length (now (out .entry)))) (now (values .entry))) × (now (out .exit) ≡ unlessShort 2 (length (now (values .entry))) (after (codeSays (now (script .entry)) (length (now (out .entry)))) (scriptCode (now (script .entry))) (now (out .entry))) (now (out .entry))) ⌝ }
+{
+    if values.len() < 2 {
+        return NO_ROOM;
+    }
+    hand::coded(templates::p2wpkh_script_code(script, out), values)
+}
+
+// The asm text.
+#[no_mangle]
+pub extern "C" fn bb_write_asm(script: &[u8], out: &mut [u8], values: &mut [u64]) -> u32
+    ensures { λ r. ⌜ (handed r (now (values .exit)) ≡ says 1 one (asmSays (now (script .entry)) (length (now (out .entry)))) (now (values .entry))) × (now (out .exit) ≡ unlessShort 1 (length (now (values .entry))) (after (asmSays (now (script .entry)) (length (now (out .entry)))) (textOf (now (script .entry))) (now (out .entry))) (now (out .entry))) ⌝ }
+{
+    if values.len() < 1 {
+        return NO_ROOM;
+    }
+    hand::count(text::write_asm(script, out), values)
+}
+
+// The script of a witness version and program.
+#[no_mangle]
+pub extern "C" fn bb_witness_program(
+    version: u8,
+    program: &[u8],
+    out: &mut [u8],
+    values: &mut [u64],
+) -> u32
+    ensures { λ r. ⌜ (handed r (now (values .exit)) ≡ says 1 one (witnessSays version (now (program .entry)) (length (now (out .entry)))) (now (values .entry))) × (now (out .exit) ≡ unlessShort 1 (length (now (values .entry))) (after (witnessSays version (now (program .entry)) (length (now (out .entry)))) (witnessBytes version (now (program .entry))) (now (out .entry))) (now (out .entry))) ⌝ }
+{
+    if values.len() < 1 {
+        return NO_ROOM;
+    }
+    hand::count(witness::witness_program(version, program, out), values)
+}
