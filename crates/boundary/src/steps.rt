@@ -1,6 +1,7 @@
 // The walk.
 use crate::hand;
 use crate::hand::NO_ROOM;
+use opcodes::Class;
 use refusal::Counted;
 use walk::Cursor;
 use walk::Found;
@@ -8,16 +9,19 @@ use walk::Mode;
 use walk::Stepped;
 ghost use mathlib.Core.Path.{_≡_};
 ghost use mathlib.Core.List.{[], _∷_};
-ghost use Prim.Native.Nat.{_≤_};
+ghost use Prim.Native.Nat.{_+_, _-_, _≤_};
 ghost use lib.Seq.{sets};
 ghost use lib.ListN.{length, getD};
 ghost use Rattle.laws.specs.Said.{answers};
 ghost use Rattle.laws.specs.Buffer.{after};
-ghost use Rattle.walk.specs.Walk.{walkSays, nextAt};
+ghost use Rattle.refusal.specs.Refusal.{limit};
+ghost use Rattle.opcodes.specs.Opcode.{sortOf};
+ghost use Rattle.walk.specs.Walk.{walked, walkSays, nextAt};
+ghost use Rattle.walk.specs.Steps.{headOf};
 ghost use Rattle.walk.specs.Part.{bodyPlace, bodyLen};
 ghost use Rattle.walk.specs.Places.{placesOf, positionsSay};
 ghost use Rattle.walk.specs.Answer.{isMinimal, saidFound};
-ghost use Rattle.boundary.specs.Handed.{handed, says, gives, steps, advances, movedTo, unlessShort, one, minimalOf};
+ghost use Rattle.boundary.specs.Handed.{handed, says, gives, steps, advances, movedTo, unlessShort, one, walkedRow, minimalOf};
 
 // 0 is plain, any other number minimal.
 fn mode_of(mode: u32) -> Mode
@@ -88,6 +92,32 @@ fn step(answer: Stepped, values: &mut [u64]) -> u32
     }
 }
 
+// The same of an instruction that stands whole at a place: the opcode byte and the size tell the rest. It goes by numbers alone, so that a walk
+// from C costs no more than its stores.
+fn whole(at: usize, size: usize, code: u8, values: &mut [u64]) -> u32
+    requires { ⌜ (6 ≤ length (now values)) × (1 + headOf (sortOf code) ≤ size) × (at + size ≤ limit) ⌝ }
+    ensures { λ r. ⌜ (r ≡ 0) × (now (values .exit) ≡ sets (now (values .entry)) 0 ((at + size) ∷ walkedRow (walked (sortOf code) at code (size - (1 + headOf (sortOf code)))))) ⌝ }
+{
+    let to = (at + size) as u64;
+    let class = opcodes::classify(code);
+    match class {
+        Class::Push(form) => {
+            let k = opcodes::length_bytes(form);
+            put_four(values, to, 2, at as u64, k as u64);
+            put_two(values, (at + 1 + k) as u64, (size - (1 + k)) as u64);
+            0
+        }
+        Class::PushNum => {
+            put_four(values, to, 1, at as u64, code as u64);
+            0
+        }
+        Class::Ordinary => {
+            put_four(values, to, 1, at as u64, code as u64);
+            0
+        }
+    }
+}
+
 // The cursor at a script's front.
 #[no_mangle]
 pub extern "C" fn bb_cursor_new(values: &mut [u64]) -> u32
@@ -101,8 +131,16 @@ pub extern "C" fn bb_cursor_new(values: &mut [u64]) -> u32
 pub extern "C" fn bb_next(script: &[u8], at: usize, mode: u32, values: &mut [u64]) -> u32
     ensures { λ r. ⌜ handed r (now (values .exit)) ≡ steps (nextAt (minimalOf mode) (now (script .entry)) at) (walkSays (minimalOf mode) (now (script .entry)) at) (now (values .entry)) ⌝ }
 {
-    let stepped = Cursor { at }.next(script, mode_of(mode));
-    step(stepped, values)
+    if values.len() < 6 {
+        return NO_ROOM;
+    }
+    let mode = mode_of(mode);
+    let size = Cursor { at }.size(script, mode);
+    if size == 0 {
+        let stepped = Cursor { at }.next(script, mode);
+        return step(stepped, values);
+    }
+    whole(at, size, script[at], values)
 }
 
 // The body of a push, as its place and length; nothing at the front for all else.

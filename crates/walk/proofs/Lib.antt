@@ -1,6 +1,7 @@
 pub mod Little
 pub mod Minimal
 pub mod Step
+pub mod Sized
 pub mod Good
 pub mod Run
 pub mod Places

@@ -16,6 +16,7 @@ use Rattle.walk.specs.declared.Found.the-variants.{End, Opcode, Push, Re
 use Rattle.walk.specs.declared.Stepped.{Stepped}
 use Rattle.walk.proofs.Cursor.new.Reads as new
 use Rattle.walk.proofs.Cursor.next.Reads as next
+use Rattle.walk.proofs.Cursor.size.Reads as size
 use Rattle.walk.proofs.positions.Reads as positions
 use Rattle.walk.proofs.body.Reads as body
 
@@ -45,6 +46,9 @@ stepped found at = record { found = found; next = cursor at }
 
 pub new-settled : (κs : _) (a : _) (r t : Cursor) (s u : _) → new.Post κs a r s → new.Post κs a t u → r ≡ t
 new-settled κs a r t s u p q = ap cursor (same-value p q)
+
+pub size-settled : (κs : _) (a : _) (r t : ℕ) (s u : _) → size.Post κs a r s → size.Post κs a t u → r ≡ t
+size-settled κs a r t s u = same-value
 
 pub next-settled : (κs : _) (a : _) (r t : Stepped) (s u : _) → next.Post κs a r s → next.Post κs a t u → r ≡ t
 next-settled κs a r t s u p q = ap₂ stepped (settled same-found (r .found) (t .found) (p .0) (q .0)) (same-value (p .1) (q .1))

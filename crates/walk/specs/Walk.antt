@@ -63,6 +63,11 @@ sizeOf end = 0
 sizeOf (opcode place code) = 1
 sizeOf (push place form body len) = 1 + lengthBytes form + len
 
+-- .. and 0 where nothing stands: at the end, and where a call refuses
+abbrev pub sizeSaid : Said Walked → ℕ
+sizeSaid (answers w) = sizeOf w
+sizeSaid (refuses number values) = 0
+
 -- the cursor after a call: past the instruction; after 2 and 3 at the script's end; else unchanged
 abbrev pub moved : Said Walked → List ℕ → ℕ → ℕ
 moved (answers w) s at = at + sizeOf w

@@ -15,7 +15,7 @@ ghost use Rattle.refusal.specs.Answer.{saidCount};
 ghost use Rattle.walk.specs.Places.{countSays, placesOf, positionsSay};
 ghost use Rattle.walk.specs.Part.{Part, bodyPlace, bodyLen};
 ghost use Rattle.walk.specs.Script.{readLE};
-ghost use Rattle.walk.specs.Walk.{walkSays, nextAt};
+ghost use Rattle.walk.specs.Walk.{walkSays, nextAt, sizeSaid};
 ghost use Rattle.walk.specs.Answer.{saidFound, isMinimal};
 ghost use Rattle.walk.specs.Steps.{stated, isNumber, tooShort, Spans};
 ghost use Rattle.laws.specs.Buffer.{after};
@@ -158,12 +158,55 @@ fn push_at(s: &[u8], at: usize, form: Form, mode: Mode) -> Stepped
     }
 }
 
+// The size of the push at `at`, by the same tests; 0 where one of them fails. A number alone: what is built on it keeps to registers.
+fn push_size(s: &[u8], at: usize, form: Form, mode: Mode) -> usize
+    requires { ⌜ (length (now s) ≤ limit) × (at < length (now s)) × (sortOf (getD (now s) at 0) ≡ push (saidForm form)) ⌝ }
+    ensures { λ r. ⌜ r ≡ sizeSaid (walkSays (isMinimal mode) (now (s .entry)) at) ⌝ }
+{
+    let n = s.len();
+    let k = opcodes::length_bytes(form);
+    let body = at + 1 + k;
+    if n < body {
+        return 0;
+    }
+    let len = stated_len(s, at, k);
+    if is_too_short(mode, s, form, body, len) {
+        return 0;
+    }
+    if n - body < len {
+        return 0;
+    }
+    1 + k + len
+}
+
 impl Cursor {
     // The front of a script.
     pub fn new() -> Cursor
         ensures { λ r. ⌜ r .at ≡ 0 ⌝ }
     {
         Cursor { at: 0 }
+    }
+
+    // The size of the instruction at the cursor, in bytes; 0 at the end and where `next` refuses.
+    pub fn size(self, script: &[u8], mode: Mode) -> usize
+        ensures { λ r. ⌜ r ≡ sizeSaid (walkSays (isMinimal mode) (now (script .entry)) (self .at)) ⌝ }
+    {
+        let at = self.at;
+        if refusal::MAX_SCRIPT < script.len() {
+            return 0;
+        }
+        if script.len() < at {
+            return 0;
+        }
+        if script.len() == at {
+            return 0;
+        }
+        let class = opcodes::classify(script[at]);
+        match class {
+            Class::Push(form) => push_size(script, at, form, mode),
+            Class::PushNum => 1,
+            Class::Ordinary => 1,
+        }
     }
 
     // What stands at the cursor, and the cursor for the next call. Refused with 1 for a script over the limit and with 8 for a cursor past
