@@ -48,3 +48,10 @@ grows a p g h = omega (arith, g .size, length-append (take (a .len) (a .bytes)) 
 -- word, value and line end are one line
 pub joined : {h : Head} (t x y z : List ℕ) → Shows h (t ++ x ++ y ++ z) → Shows h (t ++ (x ++ (y ++ z)))
 joined {h} t x y z s = subst (Shows h) (simp append-assoc) s
+
+pub behind : {h : Head} (t x y : List ℕ) → Shows h (t ++ x ++ y) → Shows h (t ++ (x ++ y))
+behind {h} t x y s = subst (Shows h) (append-assoc t x y) s
+
+-- a value of three pieces
+pub joined-three : {h : Head} (t x a b c z : List ℕ) → Shows h (t ++ x ++ a ++ (b ++ (c ++ z))) → Shows h (t ++ (x ++ ((a ++ (b ++ c)) ++ z)))
+joined-three {h} t x a b c z s = subst (Shows h) (simp append-assoc) s

@@ -4,6 +4,7 @@ use refusal::Counted;
 use templates::Kinded;
 use templates::Template;
 ghost use mathlib.Core.Path.{_≡_};
+ghost use mathlib.Core.Bool.{true, false};
 ghost use mathlib.Core.List.{[], _∷_, _++_};
 ghost use Prim.Native.Nat.{ℕ, _+_, _*_, _/_, _≤_};
 ghost use lib.ListN.{length, take, drop};
@@ -11,9 +12,10 @@ ghost use Rattle.refusal.specs.Answer.{saidCount};
 ghost use Rattle.opcodes.specs.Text.{text, decimal};
 ghost use Rattle.templates.specs.Answer.{saidTemplate};
 ghost use Rattle.templates.specs.Kind.{kindOf};
+ghost use Rattle.counts.specs.Count.{getSigOpCount};
 ghost use Rattle.counts.specs.Dust.{dustSize};
 ghost use Rattle.inspect.specs.Screen.{kindName, line};
-ghost use Rattle.inspect.specs.Steps.{Shows};
+ghost use Rattle.inspect.specs.Steps.{Shows, headOf};
 ghost use Rattle.refusal.specs.Refusal.{limit};
 ghost use Rattle.laws.specs.Said.{answers};
 
@@ -152,4 +154,61 @@ impl Head {
         let kinded = named.add_kind(kind);
         kinded.add(b"\n")
     }
+
+    // The line with both counts, the accurate one first, appended.
+    fn counts_line(self, accurate: u64, legacy: u64) -> Head
+        requires { ⌜ (self .len + 49 ≤ 160) × (length (self .bytes) ≡ 160) ⌝ }
+        ensures { λ r. ⌜ Shows r (take (self .len) (self .bytes) ++ line "sigops" (decimal accurate ++ (text " " ++ decimal legacy))) × (r .len ≤ self .len + 49) ⌝ }
+    {
+        let named = self.add(b"sigops ");
+        let numbered = named.add_number(accurate);
+        numbered.number_line(b" ", legacy)
+    }
+
+    // The line with the dust figure, and the word before the text, appended.
+    fn last_lines(self, dust: u64) -> Head
+        requires { ⌜ (self .len + 30 ≤ 160) × (length (self .bytes) ≡ 160) ⌝ }
+        ensures { λ r. ⌜ Shows r (take (self .len) (self .bytes) ++ (line "dust" (decimal dust) ++ text "asm ")) × (r .len ≤ self .len + 30) ⌝ }
+    {
+        let lined = self.number_line(b"dust ", dust);
+        lined.add(b"asm ")
+    }
+}
+
+// The lines with the script's length and kind.
+fn first_lines(size: u64, kind: Template) -> Head
+    ensures { λ r. ⌜ Shows r (line "length" (decimal size) ++ line "kind" (text (kindName (saidTemplate kind)))) × (r .len ≤ 42) ⌝ }
+{
+    let empty = Head {
+        bytes: [0u8; 160],
+        len: 0,
+    };
+    let sized = empty.number_line(b"length ", size);
+    sized.kind_line(kind)
+}
+
+// The accurate count of a script within the limit.
+fn accurate_of(script: &[u8]) -> u64
+    requires { ⌜ length (now script) ≤ limit ⌝ }
+    ensures { λ r. ⌜ r ≡ getSigOpCount true (now (script .entry)) ⌝ }
+{
+    count_in(counts::count_sigops(script)) as u64
+}
+
+// The other count.
+fn legacy_of(script: &[u8]) -> u64
+    requires { ⌜ length (now script) ≤ limit ⌝ }
+    ensures { λ r. ⌜ r ≡ getSigOpCount false (now (script .entry)) ⌝ }
+{
+    count_in(counts::count_sigops_legacy(script)) as u64
+}
+
+// The screen of a script within the limit, up to the text.
+fn head_of(script: &[u8]) -> Head
+    requires { ⌜ length (now script) ≤ limit ⌝ }
+    ensures { λ r. ⌜ Shows r (headOf (now (script .entry))) × (r .len ≤ 121) ⌝ }
+{
+    let first = first_lines(script.len() as u64, kind_of(script));
+    let counted = first.counts_line(accurate_of(script), legacy_of(script));
+    counted.last_lines(dust_of(script))
 }
