@@ -1,12 +1,14 @@
-// The inspector's screen: the steps that its lines are made of.
+// The inspector's screen: what the other crates say of a script, in five lines.
 use counts::Dust;
 use refusal::Counted;
+use refusal::Refusal;
 use templates::Kinded;
 use templates::Template;
 ghost use mathlib.Core.Path.{_≡_};
 ghost use mathlib.Core.Bool.{true, false};
 ghost use mathlib.Core.List.{[], _∷_, _++_};
-ghost use Prim.Native.Nat.{ℕ, _+_, _*_, _/_, _≤_};
+ghost use Prim.Native.Nat.{ℕ, _+_, _*_, _/_, _≤_, _<_};
+ghost use lib.Dec.{ltb};
 ghost use lib.ListN.{length, take, drop};
 ghost use Rattle.refusal.specs.Answer.{saidCount};
 ghost use Rattle.opcodes.specs.Text.{text, decimal};
@@ -14,13 +16,18 @@ ghost use Rattle.templates.specs.Answer.{saidTemplate};
 ghost use Rattle.templates.specs.Kind.{kindOf};
 ghost use Rattle.counts.specs.Count.{getSigOpCount};
 ghost use Rattle.counts.specs.Dust.{dustSize};
-ghost use Rattle.inspect.specs.Screen.{kindName, line};
+ghost use Rattle.inspect.specs.Screen.{most, kindName, line, screenOf, inspectSays};
 ghost use Rattle.inspect.specs.Steps.{Shows, headOf};
 ghost use Rattle.refusal.specs.Refusal.{limit};
 ghost use Rattle.laws.specs.Said.{answers};
+ghost use Rattle.laws.specs.Buffer.{writes, after};
+ghost use Rattle.text.specs.Asm.{textOf};
 
 // The longest script that is inspected, in bytes.
 pub const MAX_INSPECTED: usize = 2800;
+
+// How many bytes the line for a longer one has.
+const REFUSED_LEN: usize = 13;
 
 // A number's decimal digits, at the end of an array.
 struct Digits {
@@ -211,4 +218,81 @@ fn head_of(script: &[u8]) -> Head
     let first = first_lines(script.len() as u64, kind_of(script));
     let counted = first.counts_line(accurate_of(script), legacy_of(script));
     counted.last_lines(dust_of(script))
+}
+
+// How many bytes the text of a script within the inspector's limit has.
+fn text_len(script: &[u8]) -> usize
+    requires { ⌜ length (now script) ≤ most ⌝ }
+    ensures { λ r. ⌜ (r ≡ length (textOf (now (script .entry)))) × (r ≤ 64416) ⌝ }
+{
+    count_in(text::asm_len(script))
+}
+
+// Stores bytes at the front of a buffer that has room for them.
+fn put(piece: &[u8], out: &mut [u8])
+    requires { ⌜ length (now piece) ≤ length (now out) ⌝ }
+    ensures { λ _. ⌜ now (out .exit) ≡ now (piece .entry) ++ drop (length (now (piece .entry))) (now (out .entry)) ⌝ }
+{
+    let mut i: usize = 0;
+    while i < piece.len() {
+        out[i] = piece[i];
+        i += 1;
+    }
+}
+
+// Stores the text and a line end at the front of a buffer that has room for them.
+fn put_text(script: &[u8], out: &mut [u8])
+    requires { ⌜ (length (now script) ≤ limit) × (length (textOf (now script)) < length (now out)) ⌝ }
+    ensures { λ _. ⌜ now (out .exit) ≡ textOf (now (script .entry)) ++ (10 ∷ drop (length (textOf (now (script .entry))) + 1) (now (out .entry))) ⌝ }
+{
+    let n = count_in(text::write_asm(script, out));
+    out[n] = b'\n';
+}
+
+// Stores the head, the text and a line end at the front of a buffer that has room for them.
+fn put_screen(head: Head, script: &[u8], out: &mut [u8])
+    requires { ⌜ (length (head .bytes) ≡ 160) × (head .len ≤ 160) × (length (now script) ≤ limit) × (head .len + length (textOf (now script)) < length (now out)) ⌝ }
+    ensures { λ _. ⌜ now (out .exit) ≡ take (head .len) (head .bytes) ++ (textOf (now (script .entry)) ++ (10 ∷ drop (head .len + length (textOf (now (script .entry))) + 1) (now (out .entry)))) ⌝ }
+{
+    let bytes = head.bytes;
+    let len = head.len;
+    put(&bytes[..len], out);
+    put_text(script, &mut out[len..]);
+}
+
+// Whether a script is over the inspector's limit.
+fn is_over(script: &[u8]) -> bool
+    ensures { λ r. ⌜ r ≡ ltb most (length (now (script .entry))) ⌝ }
+{
+    MAX_INSPECTED < script.len()
+}
+
+// The screen of a script over the limit, written to the front of a lent buffer.
+fn write_refused(out: &mut [u8]) -> Counted
+    ensures answer { λ r. ⌜ saidCount r ≡ writes (line "refused" (decimal most)) (length (now (out .entry))) ⌝ }
+    ensures left { λ r. ⌜ now (out .exit) ≡ after (writes (line "refused" (decimal most)) (length (now (out .entry)))) (line "refused" (decimal most)) (now (out .entry)) ⌝ }
+{
+    if out.len() < REFUSED_LEN {
+        return Counted::Refused(Refusal::NoRoom(REFUSED_LEN));
+    }
+    put(b"refused 2800\n", out);
+    Counted::Count(REFUSED_LEN)
+}
+
+// Writes a script's screen to the front of a lent buffer and answers its length. For a script over 2,800 bytes the screen is the one line
+// `refused 2800`. Refused with 7 and the bytes needed where the buffer is shorter than the screen, with the buffer untouched.
+pub fn inspect(script: &[u8], out: &mut [u8]) -> Counted
+    ensures answer { λ r. ⌜ saidCount r ≡ inspectSays (now (script .entry)) (length (now (out .entry))) ⌝ }
+    ensures left { λ r. ⌜ now (out .exit) ≡ after (inspectSays (now (script .entry)) (length (now (out .entry)))) (screenOf (now (script .entry))) (now (out .entry)) ⌝ }
+{
+    if is_over(script) {
+        return write_refused(out);
+    }
+    let head = head_of(script);
+    let needed = head.len + text_len(script) + 1;
+    if out.len() < needed {
+        return Counted::Refused(Refusal::NoRoom(needed));
+    }
+    put_screen(head, script, out);
+    Counted::Count(needed)
 }
