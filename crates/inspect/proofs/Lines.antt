@@ -1,5 +1,5 @@
 -- A line is appended piece by piece: what the pieces leave, joined, is the line. Assumes nothing.
-use mathlib.Core.Path.{_≡_, refl, sym, ap, _∙_, subst}
+use mathlib.Core.Path.{_≡_, subst}
 use mathlib.Core.List.{List, [], _∷_, _++_, append-assoc}
 use Prim.Native.Nat.{ℕ, zero, suc, _+_, _/_, _%_, _≤_}
 use native.Mathlib.Omega.{arith}
@@ -11,7 +11,7 @@ use Rattle.opcodes.specs.Text.{text, digits, decimal}
 use Rattle.templates.specs.Kind.{Kind, p2pkh, p2sh, p2wpkh, p2wsh, p2tr, p2a, witness, p2pk, multisig, opreturn, other}
 use Rattle.inspect.specs.Screen.{kindName}
 use Rattle.inspect.specs.Steps.{Shows}
-use Rattle.inspect.specs.declared.Head.{Head}
+use Rattle.inspect.specs.declared.head.Head.{Head}
 
 digits-short : (most n : ℕ) (rest : List ℕ) → length (digits most n rest) ≤ most + length rest
 unfolding digits

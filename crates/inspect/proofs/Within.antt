@@ -5,7 +5,7 @@ use mathlib.Core.List.{List}
 use Prim.Native.Nat.{ℕ, _*_, _/_, _≤_}
 use borrow.Author.Tests.{le-ltb, le-leb}
 use lib.ListN.{length}
-use Rattle.laws.specs.Said.{Said, answers, refuses}
+use Rattle.laws.specs.Said.{answers, refuses}
 use Rattle.refusal.specs.Refusal.{limit}
 use Rattle.templates.specs.Says.{judges}
 use Rattle.counts.specs.Count.{getSigOpCount, countSays}

@@ -7,7 +7,7 @@ use Rattle.opcodes.specs.Text.{text, decimal}
 use Rattle.templates.specs.Kind.{kindOf}
 use Rattle.counts.specs.Dust.{dustSize}
 use Rattle.inspect.specs.Screen.{kindName, line, bothCounts}
-use Rattle.inspect.specs.declared.Head.{Head}
+use Rattle.inspect.specs.declared.head.Head.{Head}
 
 -- the first bytes of the array are w
 pub record Shows (h : Head) (w : List ℕ) : Type 0 where

@@ -1,13 +1,6 @@
 -- `inspect::head_of` meets its contract: what the lines are made from is what the definitions say of the script. Assumes nothing.
-use mathlib.Core.Path.{_≡_}
-use mathlib.Core.List.{_++_}
-use Prim.Native.Nat.{_*_, _/_}
-use mathlib.Core.Bool.{true, false}
 use native.Mathlib.Omega.{arith}
 use borrow.Author.Needs.{needs}
-use Rattle.opcodes.specs.Text.{text, decimal}
-use Rattle.counts.specs.Dust.{dustSize}
-use Rattle.inspect.specs.Screen.{line, bothCounts}
 use Rattle.inspect.specs.Steps.{headOf}
 use Rattle.inspect.proofs.Lines.{then}
 use Rattle.inspect.proofs.head_of.Statement.{statement}
@@ -21,8 +14,7 @@ returns c =
     let l = n .before in
     let a = l .before in
     let f = a .before in
-    let k = f .before in
-    let s = k .before .before .args .script .now in (
+    let k = f .before in (
       rw (← k .kind-of .ensures, ← a .accurate-of .ensures, ← l .legacy-of .ensures, ← d .dust-of .ensures)
           (then _ (then _ (f .first-lines .ensures .0) (n .counts-line .ensures .0)) (c .last-lines .ensures .0)),
       omega (arith, f .first-lines .ensures .1, n .counts-line .ensures .1, c .last-lines .ensures .1),

@@ -16,7 +16,7 @@ unfolding decimal digits
 returns-2 c =
     let p = c .before .before in
     let t = p .before .before .before in
-    room (line "refused" (decimal most)) (t .before .before .args .out .now) 13 refl _ (t .if1 .left) (p .put .ensures)
+    room (line "refused" (decimal most)) (t .before .before .args .out .now) 13 refl _ (t .if1 .left) (p .put-bytes .ensures)
 
 pub write-refused-spec : {M : Type 1} → statement M
 write-refused-spec =
