@@ -1,5 +1,5 @@
 -- A line is appended piece by piece: what the pieces leave, joined, is the line. Assumes nothing.
-use mathlib.Core.Path.{_≡_, refl, sym, ap, _∙_, subst}
+use mathlib.Core.Path.{_≡_, subst}
 use mathlib.Core.List.{List, [], _∷_, _++_, append-assoc}
 use Prim.Native.Nat.{ℕ, zero, suc, _+_, _/_, _%_, _≤_}
 use native.Mathlib.Omega.{arith}
@@ -11,7 +11,7 @@ use Rattle.opcodes.specs.Text.{text, digits, decimal}
 use Rattle.templates.specs.Kind.{Kind, p2pkh, p2sh, p2wpkh, p2wsh, p2tr, p2a, witness, p2pk, multisig, opreturn, other}
 use Rattle.inspect.specs.Screen.{kindName}
 use Rattle.inspect.specs.Steps.{Shows}
-use Rattle.inspect.specs.declared.Head.{Head}
+use Rattle.inspect.specs.declared.head.Head.{Head}
 
 digits-short : (most n : ℕ) (rest : List ℕ) → length (digits most n rest) ≤ most + length rest
 unfolding digits
@@ -48,3 +48,10 @@ grows a p g h = omega (arith, g .size, length-append (take (a .len) (a .bytes)) 
 -- word, value and line end are one line
 pub joined : {h : Head} (t x y z : List ℕ) → Shows h (t ++ x ++ y ++ z) → Shows h (t ++ (x ++ (y ++ z)))
 joined {h} t x y z s = subst (Shows h) (simp append-assoc) s
+
+pub behind : {h : Head} (t x y : List ℕ) → Shows h (t ++ x ++ y) → Shows h (t ++ (x ++ y))
+behind {h} t x y s = subst (Shows h) (append-assoc t x y) s
+
+-- a value of three pieces
+pub joined-three : {h : Head} (t x a b c z : List ℕ) → Shows h (t ++ x ++ a ++ (b ++ (c ++ z))) → Shows h (t ++ (x ++ ((a ++ (b ++ c)) ++ z)))
+joined-three {h} t x a b c z s = subst (Shows h) (simp append-assoc) s

@@ -1,4 +1,4 @@
--- W1 to W12 as one test: the checker computes the table's first column from the definitions, and finds the second. Assumes nothing.
+-- W1 to W12 and the inspector's example as one test: the checker computes the table's first column from the definitions, and finds the second. Assumes nothing.
 use mathlib.Core.Path.{_≡_, refl}
 use Rattle.laws.specs.Witness.{isWitnessProgram}
 use Rattle.opcodes.specs.Text.{decimal, digits}
@@ -14,6 +14,7 @@ use Rattle.templates.specs.Fixed.{isPayToScriptHash, isPayToPubkeyHash, isProgr
 use Rattle.templates.specs.Walked.{isMultisig}
 use Rattle.templates.specs.Kind.{kindOf}
 use Rattle.text.specs.Asm.{
+  hex,
   opcodeText,
   dataText,
   spaceAt,
@@ -26,6 +27,7 @@ use Rattle.text.specs.Asm.{
   textFrom,
   textOf,
 }
+use Rattle.inspect.specs.Screen.{linesOf, screenOf}
 use Rattle.builder.specs.Builder.{pushVerify}
 use Rattle.builder.specs.Lent.{builderSays, builtSays, calls}
 use Rattle.marked.specs.Table.{computed, paper}
@@ -35,6 +37,6 @@ unfolding
     isWitnessProgram decimal digits nameOf readLE assign sized operand getScriptOp checkMinimalPush notMinimal saysLess
     cutNotMinimal walkSays nextAt position walkFor walkFrom lowBytes serialize setVch nonMinimal scriptNum multisigOps sigOps
     while getSigOpCount countSays getSizeOfCompactSize dustSize dustSays isPayToScriptHash isPayToPubkeyHash isProgramOf
-    isPayToAnchor isKeyOf isPayToPubkey isOpReturn isMultisig kindOf opcodeText dataText spaceAt dataAt dataLen bodyText textAt
-    nextPlace textFor textFrom textOf pushVerify builderSays builtSays calls
+    isPayToAnchor isKeyOf isPayToPubkey isOpReturn isMultisig kindOf hex opcodeText dataText spaceAt dataAt dataLen bodyText textAt
+    nextPlace textFor textFrom textOf linesOf screenOf pushVerify builderSays builtSays calls
 marked = refl

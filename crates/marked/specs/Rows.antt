@@ -14,6 +14,7 @@ use Rattle.counts.specs.Count.{countSays}
 use Rattle.counts.specs.Dust.{dustSays}
 use Rattle.templates.specs.Kind.{Kind, p2pkh, p2sh, p2wpkh, p2wsh, p2tr, p2a, witness, p2pk, multisig, opreturn, other, kindOf}
 use Rattle.text.specs.Asm.{textOf}
+use Rattle.inspect.specs.Screen.{screenOf}
 use Rattle.builder.specs.Builder.{Call}
 use Rattle.builder.specs.Lent.{Outcome, calls}
 
@@ -77,6 +78,10 @@ dust s = said amountRow (dustSays s)
 
 abbrev pub asm : List ℕ → Row
 asm s = bytesRow (textOf s)
+
+-- the inspector's whole output
+abbrev pub screen : List ℕ → Row
+screen s = bytesRow (screenOf s)
 
 abbrev pub written : ℤ → Row
 written n = bytesRow (serialize n)

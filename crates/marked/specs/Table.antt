@@ -1,14 +1,15 @@
--- Document 01, 'Marked examples', W1 to W12: in each line what the definitions compute, and what the paper says of it. Assumes nothing.
+-- Document 01, 'Marked examples', W1 to W12 and the inspector's: in each line what the definitions compute, and what the paper says of it. Assumes nothing.
 use mathlib.Core.Bool.{true, false}
-use mathlib.Core.List.{List, [], _∷_, map}
+use mathlib.Core.List.{List, [], _∷_, _++_, map}
 use mathlib.Core.Option.{none}
 use Prim.Native.Nat.{ℕ}
+use Prim.Native.String.{String}
 use lib.IntN.{pos, negℤ}
 use lib.ListN.{replicate}
 use Rattle.opcodes.specs.Text.{text}
 use Rattle.builder.specs.Builder.{pushOpcode, pushVerify}
 use Rattle.builder.specs.Lent.{Outcome, calls}
-use Rattle.marked.specs.Rows.{Row, plain, minimal, size, kind, dust, asm, written, strict, loose, accurate, legacy, built, then}
+use Rattle.marked.specs.Rows.{Row, plain, minimal, size, kind, dust, asm, written, strict, loose, accurate, legacy, screen, built, then}
 
 abbrev pub W1 : List ℕ
 W1 = []
@@ -49,6 +50,17 @@ W12-verify = then W12-equal pushVerify []
 
 abbrev pub W12-again : Outcome
 W12-again = then W12-verify pushVerify (0x00 ∷ [])
+
+abbrev pub P2A : List ℕ
+P2A = 0x51 ∷ 0x02 ∷ 0x4e ∷ 0x73 ∷ []
+
+-- 'Every line, the last included, ends in a newline'
+abbrev pub lines : List String → List ℕ
+lines [] = []
+lines (l ∷ ls) = text l ++ (10 ∷ lines ls)
+
+abbrev pub P2A-output : List ℕ
+P2A-output = lines ("length 4" ∷ "kind p2a" ∷ "sigops 0 0" ∷ "dust 240" ∷ "asm OP_PUSHNUM_1 OP_PUSHBYTES_2 4e73" ∷ [])
 
 abbrev pub table : List (Row × Row)
 table =
@@ -105,7 +117,9 @@ table =
     (built W12-equal, ("bytes", 0x87 ∷ [])) ∷
     (built W12-verify, ("bytes", 0x88 ∷ [])) ∷
     -- then again with room for one more: `88 69`
-    (built W12-again, ("bytes", 0x88 ∷ 0x69 ∷ [])) ∷ []
+    (built W12-again, ("bytes", 0x88 ∷ 0x69 ∷ [])) ∷
+    -- The inspector: for `51 02 4e 73` its whole output
+    (screen P2A, ("bytes", P2A-output)) ∷ []
 
 abbrev pub computed : List Row
 computed = map (λ line. line .0) table

@@ -1,4 +1,4 @@
-// Prints what the entries answer for document 01's marked examples W1 to W12, one line for each answer.
+// Prints what the entries answer for document 01's marked examples W1 to W12, one line for each answer, and the inspector's example as it is.
 use builder::Answer;
 use builder::Builder;
 use builder::Built;
@@ -254,6 +254,13 @@ fn w12() {
     verify(b"again", builder, &mut more);
 }
 
+// The inspector's whole output, in a buffer that is as long as it.
+fn screen(script: &[u8]) {
+    let mut out = [0u8; 75];
+    inspect::inspect(script, &mut out);
+    show::text(&out);
+}
+
 fn writes() {
     w8();
     w8_more();
@@ -272,4 +279,5 @@ fn main() {
     writes();
     w9_to_w11();
     w12();
+    screen(b"\x51\x02\x4e\x73");
 }
