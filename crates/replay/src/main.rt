@@ -1,0 +1,382 @@
+// Reads a recorded sample of the Rust crate's answers from standard input, asks Brinebutton the same, and prints for each entry how many answers
+// agree. Only a file that is whole and agrees with every answer ends in the line `.. records agree`. docs/REPLAY.md has the file's layout.
+mod file;
+mod names;
+mod on_builder;
+mod on_numbers;
+mod on_opcodes;
+mod on_scripts;
+mod on_templates;
+mod on_walk;
+mod put;
+
+use builder::Builder;
+use file::Head;
+use libc::STDIN_FILENO;
+
+// Kinds of records that ask nothing.
+const MARK: u8 = 0xfd;
+
+const INPUT: u8 = 0xfe;
+
+const END: u8 = 0xff;
+
+// What a lent byte holds before the call.
+const PATTERN: u8 = 0xee;
+
+// How many entries there are.
+const ENTRIES: u8 = 48;
+
+// How far the reading is.
+const READING: u8 = 0;
+
+const WHOLE: u8 = 1;
+
+const DAMAGED: u8 = 2;
+
+// Where the next record starts, how long the input is, the builder of the session and its room, and what was counted.
+struct State {
+    at: usize,
+    len: usize,
+    builder: Builder,
+    room: usize,
+    asked: u64,
+    marked: u64,
+    differ: u64,
+    stage: u8,
+}
+
+fn more(n: u64) -> u64 {
+    if n < u64::MAX { n + 1 } else { n }
+}
+
+fn staged(s: State, stage: u8) -> State {
+    let mut next = s;
+    next.stage = stage;
+    next
+}
+
+fn moved(s: State, at: usize) -> State {
+    let mut next = s;
+    next.at = at;
+    next
+}
+
+fn begun(at: usize, stage: u8) -> State {
+    let builder = Builder::new();
+    State {
+        at,
+        len: 0,
+        builder,
+        room: 0,
+        asked: 0,
+        marked: 0,
+        differ: 0,
+        stage,
+    }
+}
+
+fn begin(data: &[u8]) -> State {
+    if file::same(file::part(data, 0, 9), b"replay 1\n") {
+        return begun(9, READING);
+    }
+    begun(0, DAMAGED)
+}
+
+// The entries that keep nothing for the next record.
+fn dispatch(kind: u8, arg: u64, input: &[u8], out: &mut [u8], said: &mut [u8]) -> usize {
+    match kind {
+        1..=8 => on_opcodes::answer(kind, put::low(arg), out, said),
+        9..=13 => on_numbers::answer(kind, arg, input, out, said),
+        14..=17 => on_walk::answer(kind, out.len(), input, said),
+        18..=33 => on_templates::answer(kind, input, out, said),
+        34..=37 => on_scripts::counted(kind, arg, input, said),
+        _ => on_scripts::written(kind, put::low(arg), input, out, said),
+    }
+}
+
+fn lent(kind: u8, arg: u64, input: &[u8], out: &mut [u8], said: &mut [u8]) -> usize {
+    put::fill(b"", PATTERN, out);
+    dispatch(kind, arg, input, out, said)
+}
+
+fn lent_part(
+    kind: u8,
+    arg: u64,
+    room: usize,
+    input: &[u8],
+    space: &mut [u8],
+    said: &mut [u8],
+) -> usize {
+    if room <= space.len() {
+        return lent(kind, arg, input, &mut space[..room], said);
+    }
+    0
+}
+
+// Compares the first n bytes of what was said with the record's, and counts.
+fn compared(
+    data: &[u8],
+    h: Head,
+    s: State,
+    said: &[u8],
+    n: usize,
+    counts: &mut [u64; 49],
+) -> State {
+    let mut next = moved(s, h.next);
+    next.asked = more(s.asked);
+    if file::same(file::part(said, 0, n), file::part(data, h.from, h.len)) {
+        agrees(h.kind, counts);
+        return next;
+    }
+    if s.differ == 0 {
+        first_differing(next.asked, s.at, h.kind);
+    }
+    next.differ = more(s.differ);
+    next
+}
+
+fn agrees(kind: u8, counts: &mut [u64; 49]) {
+    let k = kind as usize;
+    if k < 49 {
+        counts[k] = more(counts[k]);
+    }
+}
+
+fn first_differing(record: u64, at: usize, kind: u8) {
+    show::text(b"record ");
+    show::decimal(record);
+    show::named(b"at byte", at);
+    show::text(b" differs: ");
+    names::name(kind as usize);
+    show::line_end();
+}
+
+// An entry that keeps nothing.
+fn asked(
+    data: &[u8],
+    h: Head,
+    s: State,
+    input: &[u8],
+    space: &mut [u8],
+    said: &mut [u8],
+    counts: &mut [u64; 49],
+) -> State {
+    let script = file::part(input, 0, s.len);
+    let n = lent_part(h.kind, h.arg, h.room, script, space, said);
+    compared(data, h, s, said, n, counts)
+}
+
+// A session's room is that of its first record.
+fn room_of(h: Head, s: State) -> usize {
+    if h.kind < 42 {
+        return h.room;
+    }
+    s.room
+}
+
+// A call of the builder.
+fn session(
+    data: &[u8],
+    h: Head,
+    s: State,
+    input: &[u8],
+    buffer: &mut [u8],
+    said: &mut [u8],
+    counts: &mut [u64; 49],
+) -> State {
+    let bytes = file::part(input, 0, s.len);
+    let room = room_of(h, s);
+    let builder = s.builder;
+    if buffer.len() < room {
+        return staged(s, DAMAGED);
+    }
+    let left = on_builder::answer(h.kind, h.arg, bytes, builder, &mut buffer[..room], said);
+    let mut next = compared(data, h, s, said, left.put, counts);
+    let after = left.builder;
+    next.builder = after;
+    next.room = room;
+    next
+}
+
+fn set_input(data: &[u8], h: Head, s: State, input: &mut [u8]) -> State {
+    let room = h.room;
+    if input.len() < room {
+        return staged(s, DAMAGED);
+    }
+    put::fill(
+        file::part(data, h.from, h.len),
+        put::low(h.arg),
+        &mut input[..room],
+    );
+    let mut next = moved(s, h.next);
+    next.len = room;
+    next
+}
+
+fn marked(h: Head, s: State) -> State {
+    let mut next = moved(s, h.next);
+    next.marked = more(s.marked);
+    next
+}
+
+// The last record has the counts of the records that ask and of the marks, and nothing follows it.
+fn ended(data: &[u8], h: Head, s: State) -> State {
+    if h.arg != s.asked {
+        return staged(s, DAMAGED);
+    }
+    if h.room as u64 != s.marked {
+        return staged(s, DAMAGED);
+    }
+    if h.next != data.len() {
+        return staged(s, DAMAGED);
+    }
+    staged(s, WHOLE)
+}
+
+// A record that asks: its entry must be known, and its answer shorter than the room for what is said.
+fn question(
+    data: &[u8],
+    h: Head,
+    s: State,
+    input: &[u8],
+    buffer: &mut [u8],
+    space: &mut [u8],
+    said: &mut [u8],
+    counts: &mut [u64; 49],
+) -> State {
+    if said.len() <= h.len {
+        return staged(s, DAMAGED);
+    }
+    match h.kind {
+        1..=39 => asked(data, h, s, input, space, said, counts),
+        40..=47 => session(data, h, s, input, buffer, said, counts),
+        ENTRIES => asked(data, h, s, input, space, said, counts),
+        _ => staged(s, DAMAGED),
+    }
+}
+
+fn record(
+    data: &[u8],
+    h: Head,
+    s: State,
+    input: &mut [u8],
+    buffer: &mut [u8],
+    space: &mut [u8],
+    said: &mut [u8],
+    counts: &mut [u64; 49],
+) -> State {
+    match h.kind {
+        INPUT => set_input(data, h, s, input),
+        MARK => marked(h, s),
+        END => ended(data, h, s),
+        _ => question(data, h, s, input, buffer, space, said, counts),
+    }
+}
+
+fn turn(
+    data: &[u8],
+    s: State,
+    input: &mut [u8],
+    buffer: &mut [u8],
+    space: &mut [u8],
+    said: &mut [u8],
+    counts: &mut [u64; 49],
+) -> State {
+    let h = file::head(data, s.at);
+    if h.whole {
+        return record(data, h, s, input, buffer, space, said, counts);
+    }
+    staged(s, DAMAGED)
+}
+
+fn line(k: usize, counts: &[u64; 49]) {
+    names::name(k);
+    show::text(b" ");
+    show::decimal(counts[k]);
+    show::line_end();
+}
+
+fn lines(counts: &[u64; 49]) {
+    for k in 1..49 {
+        line(k, counts);
+    }
+}
+
+fn damaged(at: usize) {
+    show::text(b"damaged in the record");
+    show::named(b"at byte", at);
+    show::line_end();
+}
+
+fn differing(asked: u64, differ: u64) {
+    show::decimal(differ);
+    show::text(b" of ");
+    show::decimal(asked);
+    show::text(b" records differ\n");
+}
+
+fn agreeing(asked: u64, marked: u64) {
+    show::decimal(asked);
+    show::text(b" records agree, ");
+    show::decimal(marked);
+    show::text(b" of them marked\n");
+}
+
+fn report(s: State, counts: &[u64; 49]) {
+    lines(counts);
+    if s.stage != WHOLE {
+        damaged(s.at);
+    }
+    if 0 < s.differ {
+        differing(s.asked, s.differ);
+    } else if s.stage == WHOLE {
+        agreeing(s.asked, s.marked);
+    }
+}
+
+// Each record has at least one byte, so that there are no more turns than bytes.
+fn run(
+    data: &[u8],
+    input: &mut [u8],
+    buffer: &mut [u8],
+    space: &mut [u8],
+    said: &mut [u8],
+    counts: &mut [u64; 49],
+) -> State {
+    let mut s = begin(data);
+    let mut left = data.len();
+    while 0 < left {
+        left -= 1;
+        if s.stage == READING {
+            s = turn(data, s, input, buffer, space, said, counts);
+        } else {
+            return s;
+        }
+    }
+    s
+}
+
+fn with_buffers(data: &[u8], input: &mut [u8; 4_194_305]) {
+    let mut buffer = [0u8; 1024];
+    let mut space = [0u8; 1024];
+    let mut said = [0u8; 1536];
+    let mut counts = [0u64; 49];
+    let s = run(data, input, &mut buffer, &mut space, &mut said, &mut counts);
+    report(s, &counts);
+}
+
+fn with_input(data: &[u8]) {
+    let mut input = [0u8; 4_194_305];
+    with_buffers(data, &mut input);
+}
+
+fn read(data: &mut [u8; 655_360]) {
+    let n = io::read_full(STDIN_FILENO, data);
+    with_input(&data[..n]);
+}
+
+fn main() {
+    let mut data = [0u8; 655_360];
+    read(&mut data);
+}

@@ -1,0 +1,87 @@
+// The entries of `builder`, numbers 40 to 47. A session starts with `new` or `start`, and each call goes on with the builder and the buffer that the
+// one before left.
+use crate::file;
+use crate::on_numbers;
+use crate::put;
+use builder::Answer;
+use builder::Builder;
+use builder::Built;
+
+// Where the answer goes on, and the builder for the next call.
+pub(crate) struct Left {
+    pub(crate) put: usize,
+    pub(crate) builder: Builder,
+}
+
+fn answered(said: &mut [u8], answer: Answer) -> usize {
+    match answer {
+        Answer::Done => put::done(said, 0),
+        Answer::Refused(r) => put::refused(said, 0, r),
+    }
+}
+
+// The builder's length and opcode, whether the bytes it shows are the buffer's first, and the whole buffer.
+fn state(builder: Builder, buffer: &[u8], said: &mut [u8], start: usize) -> usize {
+    let remembered = builder.remembered;
+    let length = builder.length;
+    let at = put::size(said, start, length);
+    let next = put::code(said, at, remembered);
+    let shown = file::same(builder.as_bytes(buffer), file::part(buffer, 0, length));
+    let then = put::flag(said, next, shown);
+    put::bytes(said, then, buffer)
+}
+
+fn left(built: Built, buffer: &[u8], said: &mut [u8]) -> Left {
+    let answer = built.answer;
+    let builder = built.builder;
+    let at = answered(said, answer);
+    let last = state(builder, buffer, said, at);
+    Left { put: last, builder }
+}
+
+fn fresh(buffer: &[u8], said: &mut [u8]) -> Left {
+    let builder = Builder::new();
+    let at = put::done(said, 0);
+    let last = state(builder, buffer, said, at);
+    Left { put: last, builder }
+}
+
+fn narrow(n: u64) -> u32 {
+    if n < 4_294_967_296 { n as u32 } else { 0 }
+}
+
+fn call(kind: u8, arg: u64, input: &[u8], builder: Builder, buffer: &mut [u8]) -> Built {
+    match kind {
+        42 => builder.push_opcode(buffer, put::low(arg)),
+        43 => builder.push_slice(buffer, input),
+        44 => builder.push_int(buffer, on_numbers::signed(0 < input.len(), arg)),
+        45 => builder.push_lock_time(buffer, narrow(arg)),
+        46 => builder.push_sequence(buffer, narrow(arg)),
+        _ => builder.push_verify(buffer),
+    }
+}
+
+// The buffer's bytes before a session: the input's, and then the pattern.
+pub(crate) fn answer(
+    kind: u8,
+    arg: u64,
+    input: &[u8],
+    builder: Builder,
+    buffer: &mut [u8],
+    said: &mut [u8],
+) -> Left {
+    match kind {
+        40 => {
+            put::fill(input, 0xee, buffer);
+            fresh(buffer, said)
+        }
+        41 => {
+            put::fill(input, 0xee, buffer);
+            left(Builder::start(buffer, input.len()), buffer, said)
+        }
+        _ => {
+            let built = call(kind, arg, input, builder, buffer);
+            left(built, buffer, said)
+        }
+    }
+}

@@ -1,0 +1,56 @@
+// The entries of `numbers`, numbers 9 to 13. A number stands in the file as its magnitude, with an input that is not empty where it is negative;
+// in an answer as its sign and its magnitude.
+use crate::put;
+use numbers::Number;
+
+const HALF: u64 = 9_223_372_036_854_775_808;
+
+// The number with this sign and magnitude; the one that is nearest, where there is none.
+pub(crate) fn signed(negative: bool, m: u64) -> i64 {
+    if HALF <= m {
+        if negative {
+            return i64::MIN;
+        }
+        return i64::MAX;
+    }
+    if negative { -(m as i64) } else { m as i64 }
+}
+
+fn magnitude(n: i64) -> u64 {
+    if n == i64::MIN {
+        return HALF;
+    }
+    if n < 0 { (-n) as u64 } else { n as u64 }
+}
+
+fn scriptint_len(n: i64, said: &mut [u8]) -> usize {
+    put::counted(said, 0, numbers::scriptint_len(n))
+}
+
+fn write_scriptint(n: i64, out: &mut [u8], said: &mut [u8]) -> usize {
+    let answer = numbers::write_scriptint(n, out);
+    let at = put::counted(said, 0, answer);
+    put::bytes(said, at, out)
+}
+
+fn number(said: &mut [u8], answer: Number) -> usize {
+    match answer {
+        Number::Value(n) => {
+            let at = put::done(said, 0);
+            let next = put::flag(said, at, n < 0);
+            put::number(said, next, magnitude(n))
+        }
+        Number::Refused(r) => put::refused(said, 0, r),
+    }
+}
+
+pub(crate) fn answer(kind: u8, arg: u64, input: &[u8], out: &mut [u8], said: &mut [u8]) -> usize {
+    match kind {
+        9 => scriptint_len(signed(0 < input.len(), arg), said),
+        10 => write_scriptint(signed(0 < input.len(), arg), out, said),
+        11 => number(said, numbers::read_scriptint(input)),
+        12 => number(said, numbers::read_scriptint_non_minimal(input)),
+        13 => put::judged(said, 0, numbers::read_scriptbool(input)),
+        _ => 0,
+    }
+}

@@ -1,0 +1,151 @@
+// The entries of `templates`, numbers 18 to 33.
+use crate::file;
+use crate::put;
+use refusal::Judged;
+use templates::Coded;
+use templates::Kinded;
+use templates::Place;
+use templates::Template;
+use templates::Version;
+
+fn hash_or_witness(kind: u8, input: &[u8]) -> Judged {
+    match kind {
+        18 => templates::is_p2pkh(input),
+        19 => templates::is_p2sh(input),
+        20 => templates::is_p2wpkh(input),
+        21 => templates::is_p2wsh(input),
+        22 => templates::is_p2tr(input),
+        _ => templates::is_p2a(input),
+    }
+}
+
+fn other_judged(kind: u8, input: &[u8]) -> Judged {
+    match kind {
+        24 => templates::is_witness_program(input),
+        25 => templates::is_p2pk(input),
+        26 => templates::is_multisig(input),
+        27 => templates::is_op_return(input),
+        _ => templates::is_push_only(input),
+    }
+}
+
+fn version(said: &mut [u8], answer: Version) -> usize {
+    match answer {
+        Version::Is(v) => {
+            let at = put::done(said, 0);
+            let next = put::byte(said, at, 1);
+            put::number(said, next, v as u64)
+        }
+        Version::Nothing => {
+            let at = put::done(said, 0);
+            put::byte(said, at, 0)
+        }
+        Version::Refused(r) => put::refused(said, 0, r),
+    }
+}
+
+fn place(said: &mut [u8], start: usize, len: usize) -> usize {
+    let at = put::done(said, 0);
+    let next = put::byte(said, at, 1);
+    let then = put::size(said, next, start);
+    put::size(said, then, len)
+}
+
+// A place and a length, and whether the part handed back holds the bytes there; where there is no place, that the part is empty.
+fn placed(input: &[u8], part: &[u8], said: &mut [u8], answer: Place) -> usize {
+    match answer {
+        Place::At { start, len } => {
+            let at = place(said, start, len);
+            put::flag(said, at, file::same(part, file::part(input, start, len)))
+        }
+        Place::Nothing => {
+            let at = put::done(said, 0);
+            put::size(said, at, part.len())
+        }
+        Place::Refused(r) => {
+            let at = put::refused(said, 0, r);
+            if part.len() == 0 {
+                return at;
+            }
+            put::byte(said, at, 99)
+        }
+    }
+}
+
+fn p2pk_key(input: &[u8], said: &mut [u8]) -> usize {
+    placed(
+        input,
+        templates::p2pk_key_part(input),
+        said,
+        templates::p2pk_key(input),
+    )
+}
+
+fn redeem_script(input: &[u8], said: &mut [u8]) -> usize {
+    placed(
+        input,
+        templates::redeem_part(input),
+        said,
+        templates::redeem_script(input),
+    )
+}
+
+fn coded(said: &mut [u8], answer: Coded) -> usize {
+    match answer {
+        Coded::Bytes(count) => {
+            let at = put::done(said, 0);
+            let next = put::byte(said, at, 1);
+            put::size(said, next, count)
+        }
+        Coded::Nothing => {
+            let at = put::done(said, 0);
+            put::byte(said, at, 0)
+        }
+        Coded::Refused(r) => put::refused(said, 0, r),
+    }
+}
+
+fn p2wpkh_script_code(input: &[u8], out: &mut [u8], said: &mut [u8]) -> usize {
+    let answer = templates::p2wpkh_script_code(input, out);
+    let at = coded(said, answer);
+    put::bytes(said, at, out)
+}
+
+fn kind_number(kind: Template) -> u8 {
+    match kind {
+        Template::P2pkh => 0,
+        Template::P2sh => 1,
+        Template::P2wpkh => 2,
+        Template::P2wsh => 3,
+        Template::P2tr => 4,
+        Template::P2a => 5,
+        Template::Witness => 6,
+        Template::P2pk => 7,
+        Template::Multisig => 8,
+        Template::OpReturn => 9,
+        Template::Other => 10,
+    }
+}
+
+fn kind_of(said: &mut [u8], answer: Kinded) -> usize {
+    match answer {
+        Kinded::Is(kind) => {
+            let at = put::done(said, 0);
+            put::byte(said, at, kind_number(kind))
+        }
+        Kinded::Refused(r) => put::refused(said, 0, r),
+    }
+}
+
+pub(crate) fn answer(kind: u8, input: &[u8], out: &mut [u8], said: &mut [u8]) -> usize {
+    match kind {
+        18..=23 => put::judged(said, 0, hash_or_witness(kind, input)),
+        24..=28 => put::judged(said, 0, other_judged(kind, input)),
+        29 => version(said, templates::witness_version(input)),
+        30 => p2pk_key(input, said),
+        31 => redeem_script(input, said),
+        32 => p2wpkh_script_code(input, out, said),
+        33 => kind_of(said, templates::kind(input)),
+        _ => 0,
+    }
+}
