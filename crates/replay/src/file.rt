@@ -1,4 +1,5 @@
 // The recorded file: a header line, and records. A record is a kind, two numbers, and counted bytes. Nothing is read past the end.
+ghost use Prim.Native.Nat.{_<_};
 
 // A number that was read, and where the next byte stands. `whole` is false where bytes are missing.
 pub(crate) struct Read {
@@ -18,7 +19,9 @@ pub(crate) struct Head {
     pub(crate) whole: bool,
 }
 
-fn wide(b: u8) -> u64 {
+fn wide(b: u8) -> u64
+    ensures { λ r. ⌜ r < 256 ⌝ }
+{
     b as u64
 }
 
@@ -119,7 +122,7 @@ fn no_head(at: usize) -> Head {
     }
 }
 
-pub(crate) fn head(data: &[u8], at: usize) -> Head {
+pub(crate) fn read_head(data: &[u8], at: usize) -> Head {
     if data.len() <= at {
         return no_head(at);
     }

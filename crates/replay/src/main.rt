@@ -191,7 +191,7 @@ fn session(
     if buffer.len() < room {
         return staged(s, DAMAGED);
     }
-    let left = on_builder::answer(h.kind, h.arg, bytes, builder, &mut buffer[..room], said);
+    let left = on_builder::answer_part(h.kind, h.arg, bytes, builder, room, buffer, said);
     let mut next = compared(data, h, s, said, left.put, counts);
     let after = left.builder;
     next.builder = after;
@@ -204,10 +204,11 @@ fn set_input(data: &[u8], h: Head, s: State, input: &mut [u8]) -> State {
     if input.len() < room {
         return staged(s, DAMAGED);
     }
-    put::fill(
+    put::fill_part(
         file::part(data, h.from, h.len),
         put::low(h.arg),
-        &mut input[..room],
+        room,
+        input,
     );
     let mut next = moved(s, h.next);
     next.len = room;
@@ -248,7 +249,8 @@ fn question(
     if said.len() <= h.len {
         return staged(s, DAMAGED);
     }
-    match h.kind {
+    let kind = h.kind;
+    match kind {
         1..=39 => asked(data, h, s, input, space, said, counts),
         40..=47 => session(data, h, s, input, buffer, said, counts),
         ENTRIES => asked(data, h, s, input, space, said, counts),
@@ -266,7 +268,8 @@ fn record(
     said: &mut [u8],
     counts: &mut [u64; 49],
 ) -> State {
-    match h.kind {
+    let kind = h.kind;
+    match kind {
         INPUT => set_input(data, h, s, input),
         MARK => marked(h, s),
         END => ended(data, h, s),
@@ -283,7 +286,7 @@ fn turn(
     said: &mut [u8],
     counts: &mut [u64; 49],
 ) -> State {
-    let h = file::head(data, s.at);
+    let h = file::read_head(data, s.at);
     if h.whole {
         return record(data, h, s, input, buffer, space, said, counts);
     }
@@ -293,7 +296,9 @@ fn turn(
 fn line(k: usize, counts: &[u64; 49]) {
     names::name(k);
     show::text(b" ");
-    show::decimal(counts[k]);
+    if k < 49 {
+        show::decimal(counts[k]);
+    }
     show::line_end();
 }
 
@@ -371,12 +376,16 @@ fn with_input(data: &[u8]) {
     with_buffers(data, &mut input);
 }
 
-fn read(data: &mut [u8; 655_360]) {
+fn read(data: &mut [u8]) {
     let n = io::read_full(STDIN_FILENO, data);
     with_input(&data[..n]);
 }
 
+fn read_into(data: &mut [u8; 655_360]) {
+    read(data);
+}
+
 fn main() {
     let mut data = [0u8; 655_360];
-    read(&mut data);
+    read_into(&mut data);
 }

@@ -31,7 +31,7 @@ fn state(builder: Builder, buffer: &[u8], said: &mut [u8], start: usize) -> usiz
     put::bytes(said, then, buffer)
 }
 
-fn left(built: Built, buffer: &[u8], said: &mut [u8]) -> Left {
+fn after_call(built: Built, buffer: &[u8], said: &mut [u8]) -> Left {
     let answer = built.answer;
     let builder = built.builder;
     let at = answered(said, answer);
@@ -77,11 +77,19 @@ pub(crate) fn answer(
         }
         41 => {
             put::fill(input, 0xee, buffer);
-            left(Builder::start(buffer, input.len()), buffer, said)
+            after_call(Builder::start(buffer, input.len()), buffer, said)
         }
         _ => {
             let built = call(kind, arg, input, builder, buffer);
-            left(built, buffer, said)
+            after_call(built, buffer, said)
         }
     }
+}
+
+// The same with the buffer's first room bytes as the buffer.
+pub(crate) fn answer_part(kind: u8, arg: u64, input: &[u8], builder: Builder, room: usize, buffer: &mut [u8], said: &mut [u8]) -> Left {
+    if room <= buffer.len() {
+        return answer(kind, arg, input, builder, &mut buffer[..room], said);
+    }
+    Left { put: 0, builder }
 }

@@ -111,15 +111,26 @@ pub(crate) fn code(said: &mut [u8], at: usize, answer: Code) -> usize {
     }
 }
 
+// The byte at i, or the pattern behind the last.
+fn byte_or(front: &[u8], i: usize, pattern: u8) -> u8 {
+    if i < front.len() {
+        return front[i];
+    }
+    pattern
+}
+
 // The buffer's bytes: the front's, as many as there are and fit, and then the pattern.
 pub(crate) fn fill(front: &[u8], pattern: u8, buffer: &mut [u8]) {
     let mut i = 0;
     while i < buffer.len() {
-        if i < front.len() {
-            buffer[i] = front[i];
-        } else {
-            buffer[i] = pattern;
-        }
+        buffer[i] = byte_or(front, i, pattern);
         i += 1;
+    }
+}
+
+// The same for the buffer's first room bytes.
+pub(crate) fn fill_part(front: &[u8], pattern: u8, room: usize, buffer: &mut [u8]) {
+    if room <= buffer.len() {
+        fill(front, pattern, &mut buffer[..room]);
     }
 }
