@@ -121,7 +121,7 @@ fn compared(
     s: State,
     said: &[u8],
     n: usize,
-    counts: &mut [u64; 49],
+    counts: &mut [u64; 54],
 ) -> State {
     let mut next = moved(s, h.next);
     next.asked = more(s.asked);
@@ -136,9 +136,9 @@ fn compared(
     next
 }
 
-fn agrees(kind: u8, counts: &mut [u64; 49]) {
+fn agrees(kind: u8, counts: &mut [u64; 54]) {
     let k = kind as usize;
-    if k < 49 {
+    if k < 54 {
         counts[k] = more(counts[k]);
     }
 }
@@ -160,7 +160,7 @@ fn asked(
     input: &[u8],
     space: &mut [u8],
     said: &mut [u8],
-    counts: &mut [u64; 49],
+    counts: &mut [u64; 54],
 ) -> State {
     let script = file::part(input, 0, s.len);
     let n = lent_part(h.kind, h.arg, h.room, script, space, said);
@@ -183,7 +183,7 @@ fn session(
     input: &[u8],
     buffer: &mut [u8],
     said: &mut [u8],
-    counts: &mut [u64; 49],
+    counts: &mut [u64; 54],
 ) -> State {
     let bytes = file::part(input, 0, s.len);
     let room = room_of(h, s);
@@ -215,7 +215,16 @@ fn set_input(data: &[u8], h: Head, s: State, input: &mut [u8]) -> State {
     next
 }
 
-fn marked(h: Head, s: State) -> State {
+// The next record's answer is document 01's, where the crate differs. The differences are counted behind the entries.
+fn marked(h: Head, s: State, counts: &mut [u64; 54]) -> State {
+    let letter = put::low(h.arg);
+    if letter == 0 {
+        return staged(s, DAMAGED);
+    }
+    if 5 < letter {
+        return staged(s, DAMAGED);
+    }
+    agrees(ENTRIES + letter, counts);
     let mut next = moved(s, h.next);
     next.marked = more(s.marked);
     next
@@ -244,7 +253,7 @@ fn question(
     buffer: &mut [u8],
     space: &mut [u8],
     said: &mut [u8],
-    counts: &mut [u64; 49],
+    counts: &mut [u64; 54],
 ) -> State {
     if said.len() <= h.len {
         return staged(s, DAMAGED);
@@ -266,12 +275,12 @@ fn record(
     buffer: &mut [u8],
     space: &mut [u8],
     said: &mut [u8],
-    counts: &mut [u64; 49],
+    counts: &mut [u64; 54],
 ) -> State {
     let kind = h.kind;
     match kind {
         INPUT => set_input(data, h, s, input),
-        MARK => marked(h, s),
+        MARK => marked(h, s, counts),
         END => ended(data, h, s),
         _ => question(data, h, s, input, buffer, space, said, counts),
     }
@@ -284,7 +293,7 @@ fn turn(
     buffer: &mut [u8],
     space: &mut [u8],
     said: &mut [u8],
-    counts: &mut [u64; 49],
+    counts: &mut [u64; 54],
 ) -> State {
     let h = file::read_head(data, s.at);
     if h.whole {
@@ -293,17 +302,17 @@ fn turn(
     staged(s, DAMAGED)
 }
 
-fn line(k: usize, counts: &[u64; 49]) {
+fn line(k: usize, counts: &[u64; 54]) {
     names::name(k);
     show::text(b" ");
-    if k < 49 {
+    if k < 54 {
         show::decimal(counts[k]);
     }
     show::line_end();
 }
 
-fn lines(counts: &[u64; 49]) {
-    for k in 1..49 {
+fn lines(counts: &[u64; 54]) {
+    for k in 1..54 {
         line(k, counts);
     }
 }
@@ -328,7 +337,7 @@ fn agreeing(asked: u64, marked: u64) {
     show::text(b" of them marked\n");
 }
 
-fn report(s: State, counts: &[u64; 49]) {
+fn report(s: State, counts: &[u64; 54]) {
     lines(counts);
     if s.stage != WHOLE {
         damaged(s.at);
@@ -347,7 +356,7 @@ fn run(
     buffer: &mut [u8],
     space: &mut [u8],
     said: &mut [u8],
-    counts: &mut [u64; 49],
+    counts: &mut [u64; 54],
 ) -> State {
     let mut s = begin(data);
     let mut left = data.len();
@@ -366,7 +375,7 @@ fn with_buffers(data: &[u8], input: &mut [u8; 4_194_305]) {
     let mut buffer = [0u8; 1024];
     let mut space = [0u8; 1024];
     let mut said = [0u8; 1536];
-    let mut counts = [0u64; 49];
+    let mut counts = [0u64; 54];
     let s = run(data, input, &mut buffer, &mut space, &mut said, &mut counts);
     report(s, &counts);
 }

@@ -1,11 +1,11 @@
-// The entries' names, in the order of their numbers in the file, which start with 1.
+// The entries' names, in the order of their numbers in the file, which start with 1, and then the differences (a) to (e) of document 01.
 
 use crate::file;
 
 // Columns of a name.
 const WIDTH: usize = 26;
 
-const NAMES: [u8; 1248] = *b"classify                  \
+const NAMES: [u8; 1378] = *b"classify                  \
 length_bytes              \
 decode_pushnum            \
 opcode_to_verify          \
@@ -52,13 +52,18 @@ push_int                  \
 push_lock_time            \
 push_sequence             \
 push_verify               \
-witness_program           ";
+witness_program           \
+difference (a)            \
+difference (b)            \
+difference (c)            \
+difference (d)            \
+difference (e)            ";
 
-// Prints the name of entry k, and nothing where there is none.
+// Prints the name with number k, and nothing where there is none.
 pub(crate) fn name(k: usize) {
     let names = NAMES;
     if 0 < k {
-        if k < 49 {
+        if k < 54 {
             show::text(file::part(&names, (k - 1) * WIDTH, WIDTH));
         }
     }

@@ -87,7 +87,15 @@ pub(crate) fn answer(
 }
 
 // The same with the buffer's first room bytes as the buffer.
-pub(crate) fn answer_part(kind: u8, arg: u64, input: &[u8], builder: Builder, room: usize, buffer: &mut [u8], said: &mut [u8]) -> Left {
+pub(crate) fn answer_part(
+    kind: u8,
+    arg: u64,
+    input: &[u8],
+    builder: Builder,
+    room: usize,
+    buffer: &mut [u8],
+    said: &mut [u8],
+) -> Left {
     if room <= buffer.len() {
         return answer(kind, arg, input, builder, &mut buffer[..room], said);
     }

@@ -159,14 +159,15 @@ struct Sample {
     out: Vec<u8>,
     input: Option<Vec<u8>>,
     counts: [usize; 48],
-    marked: usize,
+    /// How often each of the differences (a) to (e) is marked.
+    marked: [usize; 5],
     /// Answers that were left out since they are too long.
     left_out: usize,
 }
 
 impl Sample {
     fn new() -> Sample {
-        Sample { out: HEADER.to_vec(), input: None, counts: [0; 48], marked: 0, left_out: 0 }
+        Sample { out: HEADER.to_vec(), input: None, counts: [0; 48], marked: [0; 5], left_out: 0 }
     }
 
     fn record(&mut self, kind: u8, arg: u64, room: u64, bytes: &[u8]) {
@@ -200,7 +201,7 @@ impl Sample {
     /// Asks where the expected answer is document 01's and not the crate's.
     fn ask_differing(&mut self, difference: Difference, entry: &str, arg: u64, room: usize, answer: Answer) {
         self.record(MARK, difference as u64, 0, &[]);
-        self.marked += 1;
+        self.marked[difference as usize - 1] += 1;
         self.ask(entry, arg, room, answer);
     }
 
@@ -213,8 +214,12 @@ impl Sample {
         self.counts.iter().sum()
     }
 
+    fn marks(&self) -> usize {
+        self.marked.iter().sum()
+    }
+
     fn end(&mut self) {
-        self.record(END, self.records() as u64, self.marked as u64, &[]);
+        self.record(END, self.records() as u64, self.marks() as u64, &[]);
     }
 }
 
@@ -585,10 +590,17 @@ fn small(random: &mut Random) -> Vec<u8> {
     script
 }
 
-/// Numbers and signature opcodes in a row, with a push between them now and then.
-fn signatures(random: &mut Random) -> Vec<u8> {
-    let codes = [0x00, 0x4f, 0x50, 0x51, 0x52, 0x60, 0x61, 0xac, 0xad, 0xae, 0xaf, 0xae, 0xaf];
-    let count = 1 + random.below(6);
+/// Every script of three opcodes out of a number, a signature opcode of each sort, and another.
+fn signatures() -> Vec<Vec<u8>> {
+    let codes = [0x52, 0x61, 0xac, 0xae];
+    let pairs = codes.iter().flat_map(|a| codes.map(|b| vec![*a, b]));
+    pairs.flat_map(|pair| codes.map(|c| [&pair[..], &[c]].concat())).collect()
+}
+
+/// Numbers and signature opcodes in a row, and pushes between them.
+fn more_signatures(random: &mut Random) -> Vec<u8> {
+    let codes = [0x00, 0x4f, 0x51, 0x52, 0x60, 0x61, 0x51, 0x52, 0x60, 0xac, 0xad, 0xae, 0xaf, 0xac, 0xad, 0xae, 0xaf];
+    let count = 4 + random.below(4);
     (0..count).map(|_| random.one_of(&codes)).collect()
 }
 
@@ -622,8 +634,9 @@ fn scripts(random: &mut Random) -> Vec<Vec<u8>> {
         all.push(script);
     }
     all.extend((0..60).map(|_| lists::like_multisig(random)).filter(|script| script.len() < 300).collect::<Vec<_>>());
-    all.extend((0..120).map(|_| signatures(random)));
-    all.extend((0..500).map(|_| small(random)));
+    all.extend(signatures());
+    all.extend((0..100).map(|_| more_signatures(random)));
+    all.extend((0..470).map(|_| small(random)));
     all
 }
 
@@ -791,8 +804,10 @@ fn sample() -> Sample {
 }
 
 fn summary(sample: &Sample) -> String {
-    let lines = ENTRIES.iter().zip(sample.counts).map(|(name, count)| format!("{name:26} {count}\n"));
-    let agree = format!("{} records agree, {} of them marked\n", sample.records(), sample.marked);
+    let entries = ENTRIES.iter().map(|name| name.to_string()).zip(sample.counts);
+    let differences = ('a'..='e').map(|letter| format!("difference ({letter})")).zip(sample.marked);
+    let lines = entries.chain(differences).map(|(name, count)| format!("{name:26} {count}\n"));
+    let agree = format!("{} records agree, {} of them marked\n", sample.records(), sample.marks());
     lines.chain([agree]).collect()
 }
 
