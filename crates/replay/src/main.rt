@@ -114,7 +114,15 @@ fn lent_part(
     0
 }
 
-// Compares the first n bytes of what was said with the record's, and counts.
+// Whether the first n bytes of what was said are those. What filled the room may have been cut.
+fn is_said(said: &[u8], n: usize, expected: &[u8]) -> bool {
+    if n < said.len() {
+        return file::same(file::part(said, 0, n), expected);
+    }
+    false
+}
+
+// Compares what was said with the record's bytes, and counts.
 fn compared(
     data: &[u8],
     h: Head,
@@ -125,7 +133,7 @@ fn compared(
 ) -> State {
     let mut next = moved(s, h.next);
     next.asked = more(s.asked);
-    if file::same(file::part(said, 0, n), file::part(data, h.from, h.len)) {
+    if is_said(said, n, file::part(data, h.from, h.len)) {
         agrees(h.kind, counts);
         return next;
     }
@@ -244,48 +252,7 @@ fn ended(data: &[u8], h: Head, s: State) -> State {
     staged(s, WHOLE)
 }
 
-// A record that asks: its entry must be known, and its answer shorter than the room for what is said.
-fn question(
-    data: &[u8],
-    h: Head,
-    s: State,
-    input: &[u8],
-    buffer: &mut [u8],
-    space: &mut [u8],
-    said: &mut [u8],
-    counts: &mut [u64; 54],
-) -> State {
-    if said.len() <= h.len {
-        return staged(s, DAMAGED);
-    }
-    let kind = h.kind;
-    match kind {
-        1..=39 => asked(data, h, s, input, space, said, counts),
-        40..=47 => session(data, h, s, input, buffer, said, counts),
-        ENTRIES => asked(data, h, s, input, space, said, counts),
-        _ => staged(s, DAMAGED),
-    }
-}
-
-fn record(
-    data: &[u8],
-    h: Head,
-    s: State,
-    input: &mut [u8],
-    buffer: &mut [u8],
-    space: &mut [u8],
-    said: &mut [u8],
-    counts: &mut [u64; 54],
-) -> State {
-    let kind = h.kind;
-    match kind {
-        INPUT => set_input(data, h, s, input),
-        MARK => marked(h, s, counts),
-        END => ended(data, h, s),
-        _ => question(data, h, s, input, buffer, space, said, counts),
-    }
-}
-
+// One record.
 fn turn(
     data: &[u8],
     s: State,
@@ -297,9 +264,19 @@ fn turn(
 ) -> State {
     let h = file::read_head(data, s.at);
     if h.whole {
-        return record(data, h, s, input, buffer, space, said, counts);
+        let kind = h.kind;
+        match kind {
+            1..=39 => asked(data, h, s, input, space, said, counts),
+            40..=47 => session(data, h, s, input, buffer, said, counts),
+            ENTRIES => asked(data, h, s, input, space, said, counts),
+            MARK => marked(h, s, counts),
+            INPUT => set_input(data, h, s, input),
+            END => ended(data, h, s),
+            _ => staged(s, DAMAGED),
+        }
+    } else {
+        staged(s, DAMAGED)
     }
-    staged(s, DAMAGED)
 }
 
 fn line(k: usize, counts: &[u64; 54]) {

@@ -23,13 +23,9 @@ fn magnitude(n: i64) -> u64 {
     if n < 0 { (-n) as u64 } else { n as u64 }
 }
 
-fn scriptint_len(n: i64, said: &mut [u8]) -> usize {
-    put::counted(said, 0, numbers::scriptint_len(n))
-}
-
 fn write_scriptint(n: i64, out: &mut [u8], said: &mut [u8]) -> usize {
     let answer = numbers::write_scriptint(n, out);
-    let at = put::counted(said, 0, answer);
+    let at = put::counted(said, answer);
     put::bytes(said, at, out)
 }
 
@@ -46,11 +42,11 @@ fn number(said: &mut [u8], answer: Number) -> usize {
 
 pub(crate) fn answer(kind: u8, arg: u64, input: &[u8], out: &mut [u8], said: &mut [u8]) -> usize {
     match kind {
-        9 => scriptint_len(signed(0 < input.len(), arg), said),
+        9 => put::counted(said, numbers::scriptint_len(signed(0 < input.len(), arg))),
         10 => write_scriptint(signed(0 < input.len(), arg), out, said),
         11 => number(said, numbers::read_scriptint(input)),
         12 => number(said, numbers::read_scriptint_non_minimal(input)),
-        13 => put::judged(said, 0, numbers::read_scriptbool(input)),
+        13 => put::judged(said, numbers::read_scriptbool(input)),
         _ => 0,
     }
 }

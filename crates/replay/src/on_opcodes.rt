@@ -1,9 +1,10 @@
 // The entries of `opcodes`, numbers 1 to 8.
 use crate::put;
 use opcodes::Class;
+use opcodes::Code;
 use opcodes::Form;
 
-pub(crate) fn form_number(form: Form) -> u8 {
+pub(crate) fn form_number(form: Form) -> u64 {
     match form {
         Form::Direct => 0,
         Form::PushData1 => 1,
@@ -12,7 +13,7 @@ pub(crate) fn form_number(form: Form) -> u8 {
     }
 }
 
-fn class_number(class: Class) -> u8 {
+fn class_number(class: Class) -> u64 {
     match class {
         Class::Push(form) => form_number(form),
         Class::PushNum => 4,
@@ -29,41 +30,20 @@ fn form_of(n: u8) -> Form {
     }
 }
 
-fn classify(code: u8, said: &mut [u8]) -> usize {
-    let at = put::done(said, 0);
-    put::byte(said, at, class_number(opcodes::classify(code)))
-}
-
-fn length_bytes(form: u8, said: &mut [u8]) -> usize {
-    let at = put::done(said, 0);
-    put::size(said, at, opcodes::length_bytes(form_of(form)))
-}
-
-fn decode_pushnum(code: u8, said: &mut [u8]) -> usize {
-    let at = put::done(said, 0);
-    put::code(said, at, opcodes::decode_pushnum(code))
-}
-
-fn opcode_to_verify(code: u8, said: &mut [u8]) -> usize {
-    let at = put::done(said, 0);
-    put::code(said, at, opcodes::opcode_to_verify(code))
-}
-
-fn name_len(code: u8, said: &mut [u8]) -> usize {
-    let at = put::done(said, 0);
-    put::size(said, at, opcodes::name_len(code))
-}
-
 fn write_name(code: u8, out: &mut [u8], said: &mut [u8]) -> usize {
     let answer = opcodes::write_name(code, out);
-    let at = put::counted(said, 0, answer);
+    let at = put::counted(said, answer);
     put::bytes(said, at, out)
 }
 
-fn name_len_in(code: u8, said: &mut [u8]) -> usize {
+fn name_len_in(code: u8) -> usize {
     let lengths = opcodes::name_lengths();
+    opcodes::name_len_in(&lengths, code)
+}
+
+fn coded(said: &mut [u8], answer: Code) -> usize {
     let at = put::done(said, 0);
-    put::size(said, at, opcodes::name_len_in(&lengths, code))
+    put::code(said, at, answer)
 }
 
 fn name_in(code: u8, said: &mut [u8]) -> usize {
@@ -76,13 +56,13 @@ fn name_in(code: u8, said: &mut [u8]) -> usize {
 
 pub(crate) fn answer(kind: u8, code: u8, out: &mut [u8], said: &mut [u8]) -> usize {
     match kind {
-        1 => classify(code, said),
-        2 => length_bytes(code, said),
-        3 => decode_pushnum(code, said),
-        4 => opcode_to_verify(code, said),
-        5 => name_len(code, said),
+        1 => put::value(said, class_number(opcodes::classify(code))),
+        2 => put::value(said, opcodes::length_bytes(form_of(code)) as u64),
+        3 => coded(said, opcodes::decode_pushnum(code)),
+        4 => coded(said, opcodes::opcode_to_verify(code)),
+        5 => put::value(said, opcodes::name_len(code) as u64),
         6 => write_name(code, out, said),
-        7 => name_len_in(code, said),
+        7 => put::value(said, name_len_in(code) as u64),
         8 => name_in(code, said),
         _ => 0,
     }

@@ -36,10 +36,7 @@ fn version(said: &mut [u8], answer: Version) -> usize {
             let next = put::byte(said, at, 1);
             put::number(said, next, v as u64)
         }
-        Version::Nothing => {
-            let at = put::done(said, 0);
-            put::byte(said, at, 0)
-        }
+        Version::Nothing => put::value(said, 0),
         Version::Refused(r) => put::refused(said, 0, r),
     }
 }
@@ -58,10 +55,7 @@ fn placed(input: &[u8], part: &[u8], said: &mut [u8], answer: Place) -> usize {
             let at = place(said, start, len);
             put::flag(said, at, file::same(part, file::part(input, start, len)))
         }
-        Place::Nothing => {
-            let at = put::done(said, 0);
-            put::size(said, at, part.len())
-        }
+        Place::Nothing => put::value(said, part.len() as u64),
         Place::Refused(r) => {
             let at = put::refused(said, 0, r);
             if part.len() == 0 {
@@ -97,10 +91,7 @@ fn coded(said: &mut [u8], answer: Coded) -> usize {
             let next = put::byte(said, at, 1);
             put::size(said, next, count)
         }
-        Coded::Nothing => {
-            let at = put::done(said, 0);
-            put::byte(said, at, 0)
-        }
+        Coded::Nothing => put::value(said, 0),
         Coded::Refused(r) => put::refused(said, 0, r),
     }
 }
@@ -111,7 +102,7 @@ fn p2wpkh_script_code(input: &[u8], out: &mut [u8], said: &mut [u8]) -> usize {
     put::bytes(said, at, out)
 }
 
-fn kind_number(kind: Template) -> u8 {
+fn kind_number(kind: Template) -> u64 {
     match kind {
         Template::P2pkh => 0,
         Template::P2sh => 1,
@@ -129,18 +120,15 @@ fn kind_number(kind: Template) -> u8 {
 
 fn kind_of(said: &mut [u8], answer: Kinded) -> usize {
     match answer {
-        Kinded::Is(kind) => {
-            let at = put::done(said, 0);
-            put::byte(said, at, kind_number(kind))
-        }
+        Kinded::Is(kind) => put::value(said, kind_number(kind)),
         Kinded::Refused(r) => put::refused(said, 0, r),
     }
 }
 
 pub(crate) fn answer(kind: u8, input: &[u8], out: &mut [u8], said: &mut [u8]) -> usize {
     match kind {
-        18..=23 => put::judged(said, 0, hash_or_witness(kind, input)),
-        24..=28 => put::judged(said, 0, other_judged(kind, input)),
+        18..=23 => put::judged(said, hash_or_witness(kind, input)),
+        24..=28 => put::judged(said, other_judged(kind, input)),
         29 => version(said, templates::witness_version(input)),
         30 => p2pk_key(input, said),
         31 => redeem_script(input, said),

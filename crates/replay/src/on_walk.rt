@@ -26,10 +26,10 @@ fn opcode(said: &mut [u8], start: usize, place: usize, code: u8) -> usize {
     put::number(said, next, code as u64)
 }
 
-fn push(said: &mut [u8], start: usize, place: usize, form: u8, body: usize, len: usize) -> usize {
+fn push(said: &mut [u8], start: usize, place: usize, form: u64, body: usize, len: usize) -> usize {
     let mut at = put::byte(said, start, 2);
     at = put::size(said, at, place);
-    at = put::byte(said, at, form);
+    at = put::number(said, at, form);
     at = put::size(said, at, body);
     put::size(said, at, len)
 }
@@ -135,7 +135,7 @@ fn entries(table: &[u32], said: &mut [u8], start: usize) -> usize {
 
 fn positions_in(input: &[u8], mode: Mode, table: &mut [u32], said: &mut [u8]) -> usize {
     let answer = walk::positions(input, mode, table);
-    let at = put::counted(said, 0, answer);
+    let at = put::counted(said, answer);
     entries(table, said, at)
 }
 

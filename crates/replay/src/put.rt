@@ -80,23 +80,23 @@ pub(crate) fn refused(said: &mut [u8], at: usize, r: Refusal) -> usize {
     }
 }
 
-pub(crate) fn counted(said: &mut [u8], at: usize, answer: Counted) -> usize {
+// An answer that is one number.
+pub(crate) fn value(said: &mut [u8], n: u64) -> usize {
+    let at = done(said, 0);
+    number(said, at, n)
+}
+
+pub(crate) fn counted(said: &mut [u8], answer: Counted) -> usize {
     match answer {
-        Counted::Count(count) => {
-            let next = done(said, at);
-            size(said, next, count)
-        }
-        Counted::Refused(r) => refused(said, at, r),
+        Counted::Count(count) => value(said, count as u64),
+        Counted::Refused(r) => refused(said, 0, r),
     }
 }
 
-pub(crate) fn judged(said: &mut [u8], at: usize, answer: Judged) -> usize {
+pub(crate) fn judged(said: &mut [u8], answer: Judged) -> usize {
     match answer {
-        Judged::Answer(yes) => {
-            let next = done(said, at);
-            flag(said, next, yes)
-        }
-        Judged::Refused(r) => refused(said, at, r),
+        Judged::Answer(yes) => value(said, yes as u64),
+        Judged::Refused(r) => refused(said, 0, r),
     }
 }
 
