@@ -25,6 +25,11 @@ fn wide(b: u8) -> u64
     b as u64
 }
 
+// The lowest byte.
+pub(crate) fn low(n: u64) -> u8 {
+    (n % 256) as u8
+}
+
 // The number with one more byte below its own; 0 where that needs more than 64 bits.
 fn with_byte(value: u64, b: u8) -> u64 {
     if value < 72_057_594_037_927_936 {
@@ -85,7 +90,7 @@ pub(crate) fn number(data: &[u8], at: usize) -> Read {
 }
 
 // The place behind len bytes, where so many stand there.
-fn behind(data: &[u8], from: usize, len: usize) -> Read {
+pub(crate) fn behind(data: &[u8], from: usize, len: usize) -> Read {
     if data.len() < from {
         return missing(from);
     }

@@ -1,6 +1,8 @@
 // Reads a recorded sample of the Rust crate's answers from standard input, asks Brinebutton the same, and prints for each entry how many answers
 // agree. Only a file that is whole and agrees with every answer ends in the line `.. records agree`. docs/REPLAY.md has the file's layout.
+mod expect;
 mod file;
+mod lent;
 mod names;
 mod on_builder;
 mod on_numbers;
@@ -8,7 +10,6 @@ mod on_opcodes;
 mod on_scripts;
 mod on_templates;
 mod on_walk;
-mod put;
 
 use builder::Builder;
 use file::Head;
@@ -84,57 +85,43 @@ fn begin(data: &[u8]) -> State {
 }
 
 // The entries that keep nothing for the next record.
-fn dispatch(kind: u8, arg: u64, input: &[u8], out: &mut [u8], said: &mut [u8]) -> usize {
+fn dispatch(kind: u8, arg: u64, input: &[u8], out: &mut [u8], want: &[u8]) -> usize {
     match kind {
-        1..=8 => on_opcodes::answer(kind, put::low(arg), out, said),
-        9..=13 => on_numbers::answer(kind, arg, input, out, said),
-        14..=17 => on_walk::answer(kind, out.len(), input, said),
-        18..=33 => on_templates::answer(kind, input, out, said),
-        34..=37 => on_scripts::counted(kind, arg, input, said),
-        _ => on_scripts::written(kind, put::low(arg), input, out, said),
+        1..=8 => on_opcodes::answer(kind, file::low(arg), out, want),
+        9..=13 => on_numbers::answer(kind, arg, input, out, want),
+        14..=17 => on_walk::answer(kind, out.len(), input, want),
+        18..=33 => on_templates::answer(kind, input, out, want),
+        34..=37 => on_scripts::counted(kind, arg, input, want),
+        _ => on_scripts::written(kind, file::low(arg), input, out, want),
     }
 }
 
-fn lent(kind: u8, arg: u64, input: &[u8], out: &mut [u8], said: &mut [u8]) -> usize {
-    put::fill(b"", PATTERN, out);
-    dispatch(kind, arg, input, out, said)
+fn answered(kind: u8, arg: u64, input: &[u8], out: &mut [u8], want: &[u8]) -> usize {
+    lent::fill(b"", PATTERN, out);
+    dispatch(kind, arg, input, out, want)
 }
 
-fn lent_part(
+// The same with the first room bytes of the space lent.
+fn answered_in(
     kind: u8,
     arg: u64,
     room: usize,
     input: &[u8],
     space: &mut [u8],
-    said: &mut [u8],
+    want: &[u8],
 ) -> usize {
     if room <= space.len() {
-        return lent(kind, arg, input, &mut space[..room], said);
+        return answered(kind, arg, input, &mut space[..room], want);
     }
-    0
+    expect::MISS
 }
 
-// Whether the first n bytes of what was said are those. What filled the room may have been cut.
-fn is_said(said: &[u8], n: usize, expected: &[u8]) -> bool {
-    if n < said.len() {
-        return file::same(file::part(said, 0, n), expected);
-    }
-    false
-}
-
-// Compares what was said with the record's bytes, and counts.
-fn compared(
-    data: &[u8],
-    h: Head,
-    s: State,
-    said: &[u8],
-    n: usize,
-    counts: &mut [u64; 54],
-) -> State {
+// Counts a record that was asked, and whether its answer agrees.
+fn compared(h: Head, s: State, agree: bool, counts: &mut [u64; 54]) -> State {
     let mut next = moved(s, h.next);
     next.asked = more(s.asked);
-    if is_said(said, n, file::part(data, h.from, h.len)) {
-        agrees(h.kind, counts);
+    if agree {
+        counted(h.kind, counts);
         return next;
     }
     if s.differ == 0 {
@@ -144,7 +131,7 @@ fn compared(
     next
 }
 
-fn agrees(kind: u8, counts: &mut [u64; 54]) {
+fn counted(kind: u8, counts: &mut [u64; 54]) {
     let k = kind as usize;
     if k < 54 {
         counts[k] = more(counts[k]);
@@ -167,12 +154,12 @@ fn asked(
     s: State,
     input: &[u8],
     space: &mut [u8],
-    said: &mut [u8],
     counts: &mut [u64; 54],
 ) -> State {
-    let script = file::part(input, 0, s.len);
-    let n = lent_part(h.kind, h.arg, h.room, script, space, said);
-    compared(data, h, s, said, n, counts)
+    let want = file::part(data, h.from, h.len);
+    let bytes = file::part(input, 0, s.len);
+    let end = answered_in(h.kind, h.arg, h.room, bytes, space, want);
+    compared(h, s, end == want.len(), counts)
 }
 
 // A session's room is that of its first record.
@@ -190,17 +177,14 @@ fn session(
     s: State,
     input: &[u8],
     buffer: &mut [u8],
-    said: &mut [u8],
     counts: &mut [u64; 54],
 ) -> State {
+    let want = file::part(data, h.from, h.len);
     let bytes = file::part(input, 0, s.len);
     let room = room_of(h, s);
     let builder = s.builder;
-    if buffer.len() < room {
-        return staged(s, DAMAGED);
-    }
-    let left = on_builder::answer_part(h.kind, h.arg, bytes, builder, room, buffer, said);
-    let mut next = compared(data, h, s, said, left.put, counts);
+    let left = on_builder::answer_part(h.kind, h.arg, bytes, builder, room, buffer, want);
+    let mut next = compared(h, s, left.want == want.len(), counts);
     let after = left.builder;
     next.builder = after;
     next.room = room;
@@ -212,9 +196,9 @@ fn set_input(data: &[u8], h: Head, s: State, input: &mut [u8]) -> State {
     if input.len() < room {
         return staged(s, DAMAGED);
     }
-    put::fill_part(
+    lent::fill_part(
         file::part(data, h.from, h.len),
-        put::low(h.arg),
+        file::low(h.arg),
         room,
         input,
     );
@@ -225,14 +209,14 @@ fn set_input(data: &[u8], h: Head, s: State, input: &mut [u8]) -> State {
 
 // The next record's answer is document 01's, where the crate differs. The differences are counted behind the entries.
 fn marked(h: Head, s: State, counts: &mut [u64; 54]) -> State {
-    let letter = put::low(h.arg);
+    let letter = file::low(h.arg);
     if letter == 0 {
         return staged(s, DAMAGED);
     }
     if 5 < letter {
         return staged(s, DAMAGED);
     }
-    agrees(ENTRIES + letter, counts);
+    counted(ENTRIES + letter, counts);
     let mut next = moved(s, h.next);
     next.marked = more(s.marked);
     next
@@ -259,16 +243,15 @@ fn turn(
     input: &mut [u8],
     buffer: &mut [u8],
     space: &mut [u8],
-    said: &mut [u8],
     counts: &mut [u64; 54],
 ) -> State {
     let h = file::read_head(data, s.at);
     if h.whole {
         let kind = h.kind;
         match kind {
-            1..=39 => asked(data, h, s, input, space, said, counts),
-            40..=47 => session(data, h, s, input, buffer, said, counts),
-            ENTRIES => asked(data, h, s, input, space, said, counts),
+            1..=39 => asked(data, h, s, input, space, counts),
+            40..=47 => session(data, h, s, input, buffer, counts),
+            ENTRIES => asked(data, h, s, input, space, counts),
             MARK => marked(h, s, counts),
             INPUT => set_input(data, h, s, input),
             END => ended(data, h, s),
@@ -332,7 +315,6 @@ fn run(
     input: &mut [u8],
     buffer: &mut [u8],
     space: &mut [u8],
-    said: &mut [u8],
     counts: &mut [u64; 54],
 ) -> State {
     let mut s = begin(data);
@@ -340,7 +322,7 @@ fn run(
     while 0 < left {
         left -= 1;
         if s.stage == READING {
-            s = turn(data, s, input, buffer, space, said, counts);
+            s = turn(data, s, input, buffer, space, counts);
         } else {
             return s;
         }
@@ -351,9 +333,8 @@ fn run(
 fn with_buffers(data: &[u8], input: &mut [u8; 4_194_305]) {
     let mut buffer = [0u8; 1024];
     let mut space = [0u8; 1024];
-    let mut said = [0u8; 1536];
     let mut counts = [0u64; 54];
-    let s = run(data, input, &mut buffer, &mut space, &mut said, &mut counts);
+    let s = run(data, input, &mut buffer, &mut space, &mut counts);
     report(s, &counts);
 }
 

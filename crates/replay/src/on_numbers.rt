@@ -1,6 +1,6 @@
 // The entries of `numbers`, numbers 9 to 13. A number stands in the file as its magnitude, with an input that is not empty where it is negative;
 // in an answer as its sign and its magnitude.
-use crate::put;
+use crate::expect;
 use numbers::Number;
 
 const HALF: u64 = 9_223_372_036_854_775_808;
@@ -23,30 +23,30 @@ fn magnitude(n: i64) -> u64 {
     if n < 0 { (-n) as u64 } else { n as u64 }
 }
 
-fn write_scriptint(n: i64, out: &mut [u8], said: &mut [u8]) -> usize {
+fn write_scriptint(n: i64, out: &mut [u8], want: &[u8]) -> usize {
     let answer = numbers::write_scriptint(n, out);
-    let at = put::counted(said, answer);
-    put::bytes(said, at, out)
+    let at = expect::counted(want, answer);
+    expect::bytes(want, at, out)
 }
 
-fn number(said: &mut [u8], answer: Number) -> usize {
+fn number(want: &[u8], answer: Number) -> usize {
     match answer {
         Number::Value(n) => {
-            let at = put::done(said, 0);
-            let next = put::flag(said, at, n < 0);
-            put::number(said, next, magnitude(n))
+            let at = expect::number(want, 0, 0);
+            let next = expect::flag(want, at, n < 0);
+            expect::number(want, next, magnitude(n))
         }
-        Number::Refused(r) => put::refused(said, 0, r),
+        Number::Refused(r) => expect::refused(want, 0, r),
     }
 }
 
-pub(crate) fn answer(kind: u8, arg: u64, input: &[u8], out: &mut [u8], said: &mut [u8]) -> usize {
+pub(crate) fn answer(kind: u8, arg: u64, input: &[u8], out: &mut [u8], want: &[u8]) -> usize {
     match kind {
-        9 => put::counted(said, numbers::scriptint_len(signed(0 < input.len(), arg))),
-        10 => write_scriptint(signed(0 < input.len(), arg), out, said),
-        11 => number(said, numbers::read_scriptint(input)),
-        12 => number(said, numbers::read_scriptint_non_minimal(input)),
-        13 => put::judged(said, numbers::read_scriptbool(input)),
-        _ => 0,
+        9 => expect::counted(want, numbers::scriptint_len(signed(0 < input.len(), arg))),
+        10 => write_scriptint(signed(0 < input.len(), arg), out, want),
+        11 => number(want, numbers::read_scriptint(input)),
+        12 => number(want, numbers::read_scriptint_non_minimal(input)),
+        13 => expect::judged(want, numbers::read_scriptbool(input)),
+        _ => expect::MISS,
     }
 }

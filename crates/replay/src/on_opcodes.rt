@@ -1,5 +1,5 @@
 // The entries of `opcodes`, numbers 1 to 8.
-use crate::put;
+use crate::expect;
 use opcodes::Class;
 use opcodes::Code;
 use opcodes::Form;
@@ -30,10 +30,10 @@ fn form_of(n: u8) -> Form {
     }
 }
 
-fn write_name(code: u8, out: &mut [u8], said: &mut [u8]) -> usize {
+fn write_name(code: u8, out: &mut [u8], want: &[u8]) -> usize {
     let answer = opcodes::write_name(code, out);
-    let at = put::counted(said, answer);
-    put::bytes(said, at, out)
+    let at = expect::counted(want, answer);
+    expect::bytes(want, at, out)
 }
 
 fn name_len_in(code: u8) -> usize {
@@ -41,29 +41,29 @@ fn name_len_in(code: u8) -> usize {
     opcodes::name_len_in(&lengths, code)
 }
 
-fn coded(said: &mut [u8], answer: Code) -> usize {
-    let at = put::done(said, 0);
-    put::code(said, at, answer)
+fn coded(want: &[u8], answer: Code) -> usize {
+    let at = expect::number(want, 0, 0);
+    expect::code(want, at, answer)
 }
 
-fn name_in(code: u8, said: &mut [u8]) -> usize {
+fn name_in(code: u8, want: &[u8]) -> usize {
     let pool = opcodes::name_pool();
     let starts = opcodes::name_starts();
     let lengths = opcodes::name_lengths();
-    let at = put::done(said, 0);
-    put::bytes(said, at, opcodes::name_in(&pool, &starts, &lengths, code))
+    let at = expect::number(want, 0, 0);
+    expect::bytes(want, at, opcodes::name_in(&pool, &starts, &lengths, code))
 }
 
-pub(crate) fn answer(kind: u8, code: u8, out: &mut [u8], said: &mut [u8]) -> usize {
+pub(crate) fn answer(kind: u8, code: u8, out: &mut [u8], want: &[u8]) -> usize {
     match kind {
-        1 => put::value(said, class_number(opcodes::classify(code))),
-        2 => put::value(said, opcodes::length_bytes(form_of(code)) as u64),
-        3 => coded(said, opcodes::decode_pushnum(code)),
-        4 => coded(said, opcodes::opcode_to_verify(code)),
-        5 => put::value(said, opcodes::name_len(code) as u64),
-        6 => write_name(code, out, said),
-        7 => put::value(said, name_len_in(code) as u64),
-        8 => name_in(code, said),
-        _ => 0,
+        1 => expect::value(want, class_number(opcodes::classify(code))),
+        2 => expect::value(want, opcodes::length_bytes(form_of(code)) as u64),
+        3 => coded(want, opcodes::decode_pushnum(code)),
+        4 => coded(want, opcodes::opcode_to_verify(code)),
+        5 => expect::value(want, opcodes::name_len(code) as u64),
+        6 => write_name(code, out, want),
+        7 => expect::value(want, name_len_in(code) as u64),
+        8 => name_in(code, want),
+        _ => expect::MISS,
     }
 }

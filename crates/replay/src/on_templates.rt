@@ -1,6 +1,6 @@
 // The entries of `templates`, numbers 18 to 33.
+use crate::expect;
 use crate::file;
-use crate::put;
 use refusal::Judged;
 use templates::Coded;
 use templates::Kinded;
@@ -29,77 +29,77 @@ fn other_judged(kind: u8, input: &[u8]) -> Judged {
     }
 }
 
-fn version(said: &mut [u8], answer: Version) -> usize {
+fn version(want: &[u8], answer: Version) -> usize {
     match answer {
         Version::Is(v) => {
-            let at = put::done(said, 0);
-            let next = put::byte(said, at, 1);
-            put::number(said, next, v as u64)
+            let at = expect::number(want, 0, 0);
+            let next = expect::number(want, at, 1);
+            expect::number(want, next, v as u64)
         }
-        Version::Nothing => put::value(said, 0),
-        Version::Refused(r) => put::refused(said, 0, r),
+        Version::Nothing => expect::value(want, 0),
+        Version::Refused(r) => expect::refused(want, 0, r),
     }
 }
 
-fn place(said: &mut [u8], start: usize, len: usize) -> usize {
-    let at = put::done(said, 0);
-    let next = put::byte(said, at, 1);
-    let then = put::size(said, next, start);
-    put::size(said, then, len)
+fn place(want: &[u8], start: usize, len: usize) -> usize {
+    let at = expect::number(want, 0, 0);
+    let next = expect::number(want, at, 1);
+    let then = expect::size(want, next, start);
+    expect::size(want, then, len)
 }
 
 // A place and a length, and whether the part handed back holds the bytes there; where there is no place, that the part is empty.
-fn placed(input: &[u8], part: &[u8], said: &mut [u8], answer: Place) -> usize {
+fn placed(input: &[u8], part: &[u8], want: &[u8], answer: Place) -> usize {
     match answer {
         Place::At { start, len } => {
-            let at = place(said, start, len);
-            put::flag(said, at, file::same(part, file::part(input, start, len)))
+            let at = place(want, start, len);
+            expect::flag(want, at, file::same(part, file::part(input, start, len)))
         }
-        Place::Nothing => put::value(said, part.len() as u64),
+        Place::Nothing => expect::value(want, part.len() as u64),
         Place::Refused(r) => {
-            let at = put::refused(said, 0, r);
+            let at = expect::refused(want, 0, r);
             if part.len() == 0 {
                 return at;
             }
-            put::byte(said, at, 99)
+            expect::MISS
         }
     }
 }
 
-fn p2pk_key(input: &[u8], said: &mut [u8]) -> usize {
+fn p2pk_key(input: &[u8], want: &[u8]) -> usize {
     placed(
         input,
         templates::p2pk_key_part(input),
-        said,
+        want,
         templates::p2pk_key(input),
     )
 }
 
-fn redeem_script(input: &[u8], said: &mut [u8]) -> usize {
+fn redeem_script(input: &[u8], want: &[u8]) -> usize {
     placed(
         input,
         templates::redeem_part(input),
-        said,
+        want,
         templates::redeem_script(input),
     )
 }
 
-fn coded(said: &mut [u8], answer: Coded) -> usize {
+fn coded(want: &[u8], answer: Coded) -> usize {
     match answer {
         Coded::Bytes(count) => {
-            let at = put::done(said, 0);
-            let next = put::byte(said, at, 1);
-            put::size(said, next, count)
+            let at = expect::number(want, 0, 0);
+            let next = expect::number(want, at, 1);
+            expect::size(want, next, count)
         }
-        Coded::Nothing => put::value(said, 0),
-        Coded::Refused(r) => put::refused(said, 0, r),
+        Coded::Nothing => expect::value(want, 0),
+        Coded::Refused(r) => expect::refused(want, 0, r),
     }
 }
 
-fn p2wpkh_script_code(input: &[u8], out: &mut [u8], said: &mut [u8]) -> usize {
+fn p2wpkh_script_code(input: &[u8], out: &mut [u8], want: &[u8]) -> usize {
     let answer = templates::p2wpkh_script_code(input, out);
-    let at = coded(said, answer);
-    put::bytes(said, at, out)
+    let at = coded(want, answer);
+    expect::bytes(want, at, out)
 }
 
 fn kind_number(kind: Template) -> u64 {
@@ -118,22 +118,22 @@ fn kind_number(kind: Template) -> u64 {
     }
 }
 
-fn kind_of(said: &mut [u8], answer: Kinded) -> usize {
+fn kind_of(want: &[u8], answer: Kinded) -> usize {
     match answer {
-        Kinded::Is(kind) => put::value(said, kind_number(kind)),
-        Kinded::Refused(r) => put::refused(said, 0, r),
+        Kinded::Is(kind) => expect::value(want, kind_number(kind)),
+        Kinded::Refused(r) => expect::refused(want, 0, r),
     }
 }
 
-pub(crate) fn answer(kind: u8, input: &[u8], out: &mut [u8], said: &mut [u8]) -> usize {
+pub(crate) fn answer(kind: u8, input: &[u8], out: &mut [u8], want: &[u8]) -> usize {
     match kind {
-        18..=23 => put::judged(said, hash_or_witness(kind, input)),
-        24..=28 => put::judged(said, other_judged(kind, input)),
-        29 => version(said, templates::witness_version(input)),
-        30 => p2pk_key(input, said),
-        31 => redeem_script(input, said),
-        32 => p2wpkh_script_code(input, out, said),
-        33 => kind_of(said, templates::kind(input)),
-        _ => 0,
+        18..=23 => expect::judged(want, hash_or_witness(kind, input)),
+        24..=28 => expect::judged(want, other_judged(kind, input)),
+        29 => version(want, templates::witness_version(input)),
+        30 => p2pk_key(input, want),
+        31 => redeem_script(input, want),
+        32 => p2wpkh_script_code(input, out, want),
+        33 => kind_of(want, templates::kind(input)),
+        _ => expect::MISS,
     }
 }

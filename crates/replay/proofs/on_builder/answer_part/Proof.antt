@@ -13,5 +13,4 @@ slice-aggregate-answer c =
 pub answer-part-spec : {M : Type 1} → statement M
 answer-part-spec =
     tie.close
-    (tie.spec (λ c. search needs) slice-aggregate-answer (λ c κs. search needs) (λ c. search needs) (λ c. search needs) (λ c. search needs)
-    (λ c. search needs))
+    (tie.spec (λ c. search needs) slice-aggregate-answer (λ c κs. search needs) (λ c. search needs) (λ c. search needs) (λ c. search needs))

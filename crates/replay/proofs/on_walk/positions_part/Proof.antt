@@ -13,5 +13,4 @@ slice-aggregate-positions-in c =
 pub positions-part-spec : {M : Type 1} → statement M
 positions-part-spec =
     tie.close
-    (tie.spec (λ c. search needs) slice-aggregate-positions-in (λ c κs. search needs) (λ c. search needs) (λ c. search needs) (λ c. search needs)
-    (λ c. search needs))
+    (tie.spec (λ c. search needs) slice-aggregate-positions-in (λ c κs. search needs) (λ c. search needs) (λ c. search needs) (λ c. search needs))

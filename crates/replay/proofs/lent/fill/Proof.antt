@@ -1,10 +1,10 @@
--- `replay::put::fill` is safe and ends: i stays within the buffer, whose length does not change. Assumes nothing.
+-- `replay::lent::fill` is safe and ends: i stays within the buffer, whose length does not change. Assumes nothing.
 use Prim.Native.Nat.{_≤_, _-_}
 use mathlib.Core.Path.{_≡_}
 use borrow.Author.Needs.{needs}
 use lib.ListN.{length}
-use Rattle.replay.proofs.put.fill.Statement.{statement}
-use Rattle.replay.proofs.put.fill.Tie as tie
+use Rattle.replay.proofs.lent.fill.Statement.{statement}
+use Rattle.replay.proofs.lent.fill.Tie as tie
 
 abbrev Inv-loop : tie.InvT-loop
 Inv-loop front pattern buffer₀ i₀ buffer i = (i ≤ length buffer₀) × (length buffer ≡ length buffer₀)

@@ -1,9 +1,9 @@
--- `replay::put::fill_part` is safe: the part that is lent has as many bytes as there is room. Assumes nothing.
+-- `replay::lent::fill_part` is safe: the part that is lent has as many bytes as there is room. Assumes nothing.
 use mathlib.Core.Path.{sym}
 use lib.Seq.{length-take-le}
 use borrow.Author.Needs.{needs}
-use Rattle.replay.proofs.put.fill_part.Statement.{statement}
-use Rattle.replay.proofs.put.fill_part.Tie as tie
+use Rattle.replay.proofs.lent.fill_part.Statement.{statement}
+use Rattle.replay.proofs.lent.fill_part.Tie as tie
 
 slice-aggregate-fill : tie.Need-slice-aggregate-fill
 slice-aggregate-fill c =
