@@ -61,6 +61,11 @@ pub(crate) fn counted(want: &[u8], answer: Counted) -> usize {
     }
 }
 
+// The count or the refusal, and all of the lent buffer.
+pub(crate) fn written(want: &[u8], answer: Counted, out: &[u8]) -> usize {
+    bytes(want, counted(want, answer), out)
+}
+
 pub(crate) fn judged(want: &[u8], answer: Judged) -> usize {
     match answer {
         Judged::Answer(yes) => value(want, yes as u64),

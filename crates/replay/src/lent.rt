@@ -1,5 +1,8 @@
 // Buffers as they are lent: filled before the call.
 
+// What a lent byte, and an entry of a lent table, holds before the call.
+pub(crate) const PATTERN: u8 = 0xee;
+
 // The byte at i, or the pattern behind the last.
 fn byte_or(front: &[u8], i: usize, pattern: u8) -> u8 {
     if i < front.len() {

@@ -22,9 +22,6 @@ const INPUT: u8 = 0xfe;
 
 const END: u8 = 0xff;
 
-// What a lent byte holds before the call.
-const PATTERN: u8 = 0xee;
-
 // How many entries there are.
 const ENTRIES: u8 = 48;
 
@@ -97,7 +94,7 @@ fn dispatch(kind: u8, arg: u64, input: &[u8], out: &mut [u8], want: &[u8]) -> us
 }
 
 fn answered(kind: u8, arg: u64, input: &[u8], out: &mut [u8], want: &[u8]) -> usize {
-    lent::fill(b"", PATTERN, out);
+    lent::fill(b"", lent::PATTERN, out);
     dispatch(kind, arg, input, out, want)
 }
 

@@ -68,7 +68,7 @@ fn call(kind: u8, arg: u64, input: &[u8], builder: Builder, buffer: &mut [u8]) -
     }
 }
 
-// The buffer's bytes before a session: the input's, and then the pattern.
+// A session begins with the input's bytes in the buffer, and then the pattern.
 pub(crate) fn answer(
     kind: u8,
     arg: u64,
@@ -79,11 +79,11 @@ pub(crate) fn answer(
 ) -> Left {
     match kind {
         40 => {
-            lent::fill(input, 0xee, buffer);
+            lent::fill(input, lent::PATTERN, buffer);
             fresh(buffer, want)
         }
         41 => {
-            lent::fill(input, 0xee, buffer);
+            lent::fill(input, lent::PATTERN, buffer);
             after_call(Builder::start(buffer, input.len()), buffer, want)
         }
         _ => {

@@ -25,8 +25,7 @@ fn magnitude(n: i64) -> u64 {
 
 fn write_scriptint(n: i64, out: &mut [u8], want: &[u8]) -> usize {
     let answer = numbers::write_scriptint(n, out);
-    let at = expect::counted(want, answer);
-    expect::bytes(want, at, out)
+    expect::written(want, answer, out)
 }
 
 fn number(want: &[u8], answer: Number) -> usize {

@@ -32,8 +32,7 @@ fn form_of(n: u8) -> Form {
 
 fn write_name(code: u8, out: &mut [u8], want: &[u8]) -> usize {
     let answer = opcodes::write_name(code, out);
-    let at = expect::counted(want, answer);
-    expect::bytes(want, at, out)
+    expect::written(want, answer, out)
 }
 
 fn name_len_in(code: u8) -> usize {

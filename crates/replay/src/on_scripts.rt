@@ -11,14 +11,12 @@ fn dust(want: &[u8], answer: Dust) -> usize {
 
 fn write_asm(input: &[u8], out: &mut [u8], want: &[u8]) -> usize {
     let answer = text::write_asm(input, out);
-    let at = expect::counted(want, answer);
-    expect::bytes(want, at, out)
+    expect::written(want, answer, out)
 }
 
 fn witness_program(version: u8, input: &[u8], out: &mut [u8], want: &[u8]) -> usize {
     let answer = witness::witness_program(version, input, out);
-    let at = expect::counted(want, answer);
-    expect::bytes(want, at, out)
+    expect::written(want, answer, out)
 }
 
 pub(crate) fn counted(kind: u8, rate: u64, input: &[u8], want: &[u8]) -> usize {

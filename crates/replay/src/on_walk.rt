@@ -2,6 +2,7 @@
 // positions.
 use crate::expect;
 use crate::file;
+use crate::lent;
 use crate::on_opcodes;
 use walk::Cursor;
 use walk::Found;
@@ -146,9 +147,8 @@ fn positions_part(input: &[u8], mode: Mode, room: usize, table: &mut [u32], want
     expect::MISS
 }
 
-// The table's entries are 238 before the call.
 fn positions(input: &[u8], mode: Mode, room: usize, want: &[u8]) -> usize {
-    let mut table = [238u32; 320];
+    let mut table = [lent::PATTERN as u32; 320];
     positions_part(input, mode, room, &mut table, want)
 }
 
