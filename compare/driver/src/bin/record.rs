@@ -490,6 +490,7 @@ fn templates(sample: &mut Sample, script: &[u8], about: &About, random: &mut Ran
     };
     sample.ask("kind", 0, 0, Answer::done().number(kind(about, is_multisig)));
     sample.ask("witness_version", 0, 0, Answer::done().nothing_or(about.witness_version.map(u64::from)));
+    // The published crate gives no key that is no point of the curve.
     if about.is_p2pk == about.p2pk_public_key.is_some() {
         sample.ask("p2pk_key", 0, 0, part(script, 1, &about.p2pk_public_key));
     }
@@ -500,7 +501,7 @@ fn templates(sample: &mut Sample, script: &[u8], about: &About, random: &mut Ran
     sample.ask("redeem_script", 0, 0, part(script, last_body, &about.redeem_script));
     let room = 23 + random.below(5);
     let answer = match &about.p2wpkh_script_code {
-        None => Answer::refused_with(0).number(0).lent(&[], room),
+        None => Answer::done().number(0).lent(&[], room),
         Some(code) if room < code.len() => writing(room, code),
         Some(code) => Answer::done().number(1).number(code.len() as u64).lent(code, room),
     };
