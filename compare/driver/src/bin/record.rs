@@ -758,6 +758,12 @@ fn sessions(sample: &mut Sample, random: &mut Random) {
         session(sample, None, &calls, length + 6);
         session(sample, None, &[Call::Slice(random.bytes(length))], length + 1);
     }
+    for n in [0, 1, 16, 17, 127, 128, 500_000, 0x7fff_ffff, 0x8000_0000, 0xffff_fffe, u32::MAX] {
+        session(sample, None, &[Call::LockTime(n), Call::Sequence(n), Call::Verify], 16);
+    }
+    for n in (-2..=17).chain([127, 128, -255, 2_147_483_647, i64::MAX]) {
+        session(sample, None, &[Call::Int(n), Call::Verify], 12);
+    }
     session(sample, None, &[Call::Opcode(0x87), Call::Int(i64::MIN), Call::Verify], 12);
     session(sample, None, &[Call::Int(i64::MIN), Call::Int(i64::MIN + 1), Call::Int(i64::MAX)], 20);
 }
