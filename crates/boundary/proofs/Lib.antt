@@ -2,3 +2,4 @@ pub mod Front
 pub mod Handing
 pub mod Advancing
 pub mod Shown
+pub mod Settled

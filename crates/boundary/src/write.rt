@@ -11,6 +11,7 @@ ghost use Rattle.templates.specs.Fixed.{scriptCode};
 ghost use Rattle.templates.specs.Says.{codeSays};
 ghost use Rattle.text.specs.Asm.{textOf, asmSays};
 ghost use Rattle.witness.specs.Program.{witnessBytes, witnessSays};
+ghost use Rattle.inspect.specs.Screen.{screenOf, inspectSays};
 ghost use Rattle.boundary.specs.Handed.{handed, says, unlessShort, one, maybe};
 
 // The name of an opcode.
@@ -71,4 +72,15 @@ pub extern "C" fn bb_witness_program(
         return NO_ROOM;
     }
     hand::count(witness::witness_program(version, program, out), values)
+}
+
+// The inspector's screen.
+#[no_mangle]
+pub extern "C" fn bb_inspect(script: &[u8], out: &mut [u8], values: &mut [u64]) -> u32
+    ensures { λ r. ⌜ (handed r (now (values .exit)) ≡ says 1 one (inspectSays (now (script .entry)) (length (now (out .entry)))) (now (values .entry))) × (now (out .exit) ≡ unlessShort 1 (length (now (values .entry))) (after (inspectSays (now (script .entry)) (length (now (out .entry)))) (screenOf (now (script .entry))) (now (out .entry))) (now (out .entry))) ⌝ }
+{
+    if values.len() < 1 {
+        return NO_ROOM;
+    }
+    hand::count(inspect::inspect(script, out), values)
 }

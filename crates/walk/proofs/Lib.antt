@@ -1,9 +1,9 @@
 pub mod Little
 pub mod Minimal
 pub mod Step
-pub mod Sized
 pub mod Good
 pub mod Run
+pub mod Sized
 pub mod Places
 pub mod Settled
 pub mod AdvanceSettled

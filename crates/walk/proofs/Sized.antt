@@ -11,7 +11,9 @@ use Rattle.laws.proofs.Test.{lt-or-le}
 use Rattle.refusal.specs.Refusal.{limit}
 use Rattle.opcodes.specs.Opcode.{PushForm, lengthBytes, Sort, sortOf}
 use Rattle.opcodes.specs.Opcode as sort
-use Rattle.walk.specs.Walk.{Walked, push, walked, walkSays, nextAt, sizeSaid}
+use Rattle.walk.specs.Walk.{Walked, end, opcode, push, walked, walkSays, nextAt, sizeSaid}
+use Rattle.walk.specs.Run.{stop, item, walkFrom}
+use Rattle.walk.specs.Places.{placeOf}
 use Rattle.walk.specs.Instruction.{Bytes}
 use Rattle.walk.specs.Steps.{stated, tooShort, headOf}
 use Rattle.walk.proofs.Step.{
@@ -27,6 +29,7 @@ use Rattle.walk.proofs.Step.{
   says-push,
   settles,
 }
+use Rattle.walk.proofs.Run.{turn}
 
 module _ (minimal : Bool) (s : List ℕ) (at : ℕ) (form : PushForm) (sort-of : sortOf (getD s at 0) ≡ sort.push form) (bytes : Bytes s) (l : length s ≤ limit)
     (h : at < length s) (k : ℕ) (k-is : k ≡ lengthBytes form) where
@@ -122,3 +125,31 @@ module _ (minimal : Bool) (s : List ℕ) (at : ℕ) (bytes : Bytes s) (size : �
 
   pub stands-next : at + size ≡ nextAt minimal s at
   stands-next = settles minimal s at _ _ stands-is (ap (λ n. at + n) (e ∙ ap sizeSaid stands-is)) .1
+
+  -- a turn of a loop over sizes
+  turned : (k : Sort) → sortOf code ≡ k → walkFrom minimal s at ≡ item (what k) (walkFrom minimal s (at + size))
+  turned (sort.push form) q = turn minimal s at (sym (stands (sort.push form) q .is)) stands-next
+  turned sort.number q = turn minimal s at (sym (stands sort.number q .is)) stands-next
+  turned sort.plain q = turn minimal s at (sym (stands sort.plain q .is)) stands-next
+
+  pub turn-sized : walkFrom minimal s at ≡ item (what (sortOf code)) (walkFrom minimal s (at + size))
+  turn-sized = turned (sortOf code) refl
+
+  placed : (k : Sort) → placeOf (what k) ≡ at
+  placed (sort.push form) = refl
+  placed sort.number = refl
+  placed sort.plain = refl
+
+  pub place-sized : placeOf (what (sortOf code)) ≡ at
+  place-sized = placed (sortOf code)
+
+-- where there is no size the walk stops
+module _ (minimal : Bool) (s : List ℕ) (at : ℕ) (z : sizeSaid (walkSays minimal s at) ≡ 0) where
+  stopped : (a : Said Walked) → walkSays minimal s at ≡ a → walkFrom minimal s at ≡ stop a
+  stopped (answers end) e = turn minimal s at (sym e) refl
+  stopped (answers (opcode place c)) e = absurd (omega (arith, z, ap sizeSaid e))
+  stopped (answers (push place form body len)) e = absurd (omega (arith, z, ap sizeSaid e))
+  stopped (refuses number values) e = turn minimal s at (sym e) refl
+
+  pub stops : walkFrom minimal s at ≡ stop (walkSays minimal s at)
+  stops = stopped (walkSays minimal s at) refl

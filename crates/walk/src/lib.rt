@@ -192,13 +192,14 @@ impl Cursor {
         ensures { λ r. ⌜ r ≡ sizeSaid (walkSays (isMinimal mode) (now (script .entry)) (self .at)) ⌝ }
     {
         let at = self.at;
-        if refusal::MAX_SCRIPT < script.len() {
+        let n = script.len();
+        if refusal::MAX_SCRIPT < n {
             return 0;
         }
-        if script.len() < at {
+        if n < at {
             return 0;
         }
-        if script.len() == at {
+        if n == at {
             return 0;
         }
         let class = opcodes::classify(script[at]);
@@ -258,32 +259,35 @@ fn opcode_at(at: usize, code: u8) -> Stepped
 fn count(script: &[u8], mode: Mode) -> Counted
     ensures { λ r. ⌜ saidCount r ≡ countSays (isMinimal mode) (now (script .entry)) ⌝ }
 {
-    let mut c = Cursor { at: 0 };
+    let mut at: usize = 0;
     let mut n: usize = 0;
     loop {
-        let stepped = c.next(script, mode);
-        let found = stepped.found;
-        match found {
-            Found::End => {
-                return Counted::Count(n);
-            }
-            Found::Opcode { place: _, code: _ } => {
-                n += 1;
-                c = stepped.next;
-            }
-            Found::Push {
-                place: _,
-                form: _,
-                body: _,
-                len: _,
-            } => {
-                n += 1;
-                c = stepped.next;
-            }
-            Found::Refused(why) => {
-                return Counted::Refused(why);
+        let size = Cursor { at }.size(script, mode);
+        if size == 0 {
+            let stepped = Cursor { at }.next(script, mode);
+            let found = stepped.found;
+            match found {
+                Found::Refused(why) => {
+                    return Counted::Refused(why);
+                }
+                Found::End => {
+                    return Counted::Count(n);
+                }
+                Found::Opcode { place: _, code: _ } => {
+                    return Counted::Count(n);
+                }
+                Found::Push {
+                    place: _,
+                    form: _,
+                    body: _,
+                    len: _,
+                } => {
+                    return Counted::Count(n);
+                }
             }
         }
+        n += 1;
+        at += size;
     }
 }
 
@@ -292,34 +296,16 @@ fn write_places(script: &[u8], mode: Mode, table: &mut [u32])
     requires { ⌜ length (placesOf (isMinimal mode) (now script)) ≤ length (now table) ⌝ }
     ensures { λ _. ⌜ now (table .exit) ≡ sets (now (table .entry)) 0 (placesOf (isMinimal mode) (now (script .entry))) ⌝ }
 {
-    let mut c = Cursor { at: 0 };
+    let mut at: usize = 0;
     let mut i: usize = 0;
     loop {
-        let stepped = c.next(script, mode);
-        let found = stepped.found;
-        match found {
-            Found::End => {
-                return;
-            }
-            Found::Opcode { place, code: _ } => {
-                table[i] = place as u32;
-                i += 1;
-                c = stepped.next;
-            }
-            Found::Push {
-                place,
-                form: _,
-                body: _,
-                len: _,
-            } => {
-                table[i] = place as u32;
-                i += 1;
-                c = stepped.next;
-            }
-            Found::Refused(_) => {
-                return;
-            }
+        let size = Cursor { at }.size(script, mode);
+        if size == 0 {
+            return;
         }
+        table[i] = at as u32;
+        i += 1;
+        at += size;
     }
 }
 

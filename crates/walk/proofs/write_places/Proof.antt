@@ -2,19 +2,17 @@
 -- table at the end, and there is room for them. The measure is what is left of the script. Assumes nothing.
 use mathlib.Core.Path.{_≡_, refl, sym, ap, _∙_}
 use mathlib.Core.Bool.{Bool}
-use mathlib.Core.List.{List, [], _∷_, map}
+use mathlib.Core.List.{List, _∷_, map}
 use Prim.Native.Nat.{ℕ, suc, _+_, _-_, _≤_, _<_}
 use native.Mathlib.Numerals.{add-one}
 use native.Mathlib.Omega.{arith}
 use borrow.Author.Needs.{needs}
-use lib.ListN.{length, set, length-set}
+use lib.ListN.{length, set, getD, length-set}
 use lib.Seq.{sets}
-use Rattle.laws.specs.Said.{Said}
 use Rattle.walk.specs.Answer.{isMinimal}
-use Rattle.walk.specs.Walk.{Walked}
-use Rattle.walk.specs.Run.{Run, stop, item, walkFrom, items}
+use Rattle.walk.specs.Run.{Run, walkFrom, items}
 use Rattle.walk.specs.Places.{placeOf, placesOf}
-use Rattle.walk.proofs.Run.{Moves, turn-at, moves-at}
+use Rattle.walk.proofs.Sized.{within-limit, stands-fits, turn-sized, place-sized, stops}
 use Rattle.walk.proofs.write_places.Statement.{statement}
 use Rattle.walk.proofs.write_places.Tie as tie
 
@@ -23,15 +21,15 @@ abbrev from : Bool → List ℕ → ℕ → List ℕ
 from minimal s p = map placeOf (items (walkFrom minimal s p))
 
 abbrev Inv-loop : tie.InvT-loop
-Inv-loop script mode table₀ c₀ i₀ table c i =
-    (c .at ≤ length script) × (length table ≡ length table₀) × (i + length (from (isMinimal mode) script (c .at)) ≤ length table)
-    × (sets table i (from (isMinimal mode) script (c .at)) ≡ sets table₀ 0 (from (isMinimal mode) script 0))
+Inv-loop script mode table₀ at₀ i₀ table at i =
+    (at ≤ length script) × (length table ≡ length table₀) × (i + length (from (isMinimal mode) script at) ≤ length table)
+    × (sets table i (from (isMinimal mode) script at) ≡ sets table₀ 0 (from (isMinimal mode) script 0))
 
 abbrev μ-loop : tie.MeasureT-loop
-μ-loop script mode table₀ c₀ i₀ table c i = length script - c .at
+μ-loop script mode table₀ at₀ i₀ table at i = length script - at
 
--- after a call
-module _ (d : tie.After-next Inv-loop μ-loop) where
+-- where the size is known
+module _ (d : tie.After-size Inv-loop μ-loop) where
   abbrev start : tie.Start Inv-loop μ-loop
   start = d .before .before .before .before
 
@@ -42,10 +40,7 @@ module _ (d : tie.After-next Inv-loop μ-loop) where
   s = start .args .script .now
 
   abbrev p : ℕ
-  p = d .before .loop .c .at
-
-  abbrev q : ℕ
-  q = d .next .result .next .at
+  p = d .before .loop .at
 
   abbrev table : List ℕ
   table = d .before .loop .table
@@ -53,51 +48,46 @@ module _ (d : tie.After-next Inv-loop μ-loop) where
   abbrev i : ℕ
   i = d .before .loop .i
 
-  -- it gave an instruction
-  room : {w : Walked} → walkFrom m s p ≡ item w (walkFrom m s q) → i + suc (length (from m s q)) ≤ length table
-  room t = omega (arith, ap (λ r. length (map placeOf (items r))) t)
+  abbrev size : ℕ
+  size = d .size .result
 
-  again : {w : Walked} → walkFrom m s p ≡ item w (walkFrom m s q) → Moves s p q (placeOf w)
-      → (q ≤ length s) × (length (set table i (placeOf w)) ≡ length (start .args .table .now)) × (i + 1 + length (from m s q) ≤ length (set table i (placeOf w)))
-      × (sets (set table i (placeOf w)) (i + 1) (from m s q) ≡ sets (start .args .table .now) 0 (from m s 0))
-  again t g =
-      let v = d .before .loop .inv in (
-        g .within,
-        simp length-set (v .1),
-        simp length-set (omega (arith, room t)),
-        rw add-one (sym (ap (λ r. sets table i (map placeOf (items r))) t) ∙ v .3),
-      )
+  bytes : (k : ℕ) → getD s k 0 < 256
+  bytes k = omega (arith, d .before .before .before .shared-slice-known .given k)
 
-  -- it ended the walk
-  ends : {a : Said Walked} → walkFrom m s p ≡ stop a → table ≡ sets (start .args .table .now) 0 (placesOf m s)
+  -- an instruction stands there
+  module _ (some : 0 < size) where
+    ends-at : p + size ≤ length s
+    ends-at = stands-fits m s p bytes size (d .size .ensures) some
+
+    small : length s ≤ 4194304
+    small = within-limit m s p bytes size (d .size .ensures) some
+
+    -- its place comes first
+    goes-on : from m s p ≡ p ∷ from m s (p + size)
+    goes-on =
+        ap (λ (r : Run). map placeOf (items r)) (turn-sized m s p bytes size (d .size .ensures) some)
+        ∙ ap (λ place. place ∷ from m s (p + size)) (place-sized m s p bytes size (d .size .ensures) some)
+
+    room : i + suc (length (from m s (p + size))) ≤ length table
+    room = omega (arith, ap length goes-on)
+
+    again : (p + size ≤ length s) × (length (set table i p) ≡ length (start .args .table .now)) × (i + 1 + length (from m s (p + size)) ≤ length (set table i p))
+        × (sets (set table i p) (i + 1) (from m s (p + size)) ≡ sets (start .args .table .now) 0 (from m s 0))
+    again =
+        let v = d .before .loop .inv in
+        (ends-at, simp length-set (v .1), simp length-set (omega (arith, room)), rw add-one (sym (ap (sets table i) goes-on) ∙ v .3))
+
+  -- the walk stops there
+  ends : size ≡ 0 → table ≡ sets (start .args .table .now) 0 (placesOf m s)
   unfolding placesOf
-  ends t = sym (ap (λ r. sets table i (map placeOf (items r))) t) ∙ d .before .loop .inv .3
+  ends z =
+      sym (ap (λ (r : Run). sets table i (map placeOf (items r))) (stops m s p (sym (d .size .ensures) ∙ z))) ∙ d .before .loop .inv .3
 
--- an opcode
-cast-table : tie.Need-cast-table Inv-loop μ-loop
-cast-table c = let d = c .before .before .before in omega (arith, moves-at _ _ _ (d .next .ensures) (c .before .found .given .1))
+some-of : (c : tie.Else1 Inv-loop μ-loop) → 0 < size (c .before)
+some-of c = omega (arith, c .if1 .left)
 
 slice-write-table : tie.Need-slice-write-table Inv-loop μ-loop
-slice-write-table c = let d = c .before .before .before in omega (arith, room d (turn-at _ _ _ (d .next .ensures) (c .before .found .given .1)))
-
-loop-again : tie.Need-loop-again Inv-loop μ-loop
-loop-again c =
-    let d = c .before .before .before .before in
-    let e = c .before .before .found .given .1 in
-    again d (turn-at _ _ _ (d .next .ensures) e) (moves-at _ _ _ (d .next .ensures) e)
-
--- a push
-cast-table-2 : tie.Need-cast-table-2 Inv-loop μ-loop
-cast-table-2 c = let d = c .before .before .before in omega (arith, moves-at _ _ _ (d .next .ensures) (c .before .found2 .given .1))
-
-slice-write-table-2 : tie.Need-slice-write-table-2 Inv-loop μ-loop
-slice-write-table-2 c = let d = c .before .before .before in omega (arith, room d (turn-at _ _ _ (d .next .ensures) (c .before .found2 .given .1)))
-
-loop-again-2 : tie.Need-loop-again-2 Inv-loop μ-loop
-loop-again-2 c =
-    let d = c .before .before .before .before in
-    let e = c .before .before .found2 .given .1 in
-    again d (turn-at _ _ _ (d .next .ensures) e) (moves-at _ _ _ (d .next .ensures) e)
+slice-write-table c = omega (arith, room (c .before) (some-of c))
 
 loop-holds : tie.Need-loop-holds Inv-loop μ-loop
 unfolding placesOf
@@ -106,14 +96,7 @@ loop-holds c = (omega arith, refl, omega (arith, c .before .before .pre), refl)
 pub write-places-spec : {M : Type 1} → statement M
 write-places-spec =
     tie.close
-    (tie.spec Inv-loop μ-loop loop-holds (λ c κs. search needs) (λ c. search needs) (λ c. c .before .before .before .loop .inv .1)
-    (λ c. ends (c .before .before) (turn-at _ _ _ (c .before .before .next .ensures) (c .enum-told .given .1))) (λ c. search needs) cast-table
-    (λ c. omega (arith, slice-write-table c)) slice-write-table (λ c. omega (arith, slice-write-table c)) (λ c. omega (
-      arith,
-      moves-at _ _ _ (c .before .before .before .before .next .ensures) (c .before .before .found .given .1),
-    )) loop-again (λ c. search needs) cast-table-2 (λ c. omega (arith, slice-write-table-2 c)) slice-write-table-2 (λ c. omega
-    (arith, slice-write-table-2 c)) (λ c. omega (
-      arith,
-      moves-at _ _ _ (c .before .before .before .before .next .ensures) (c .before .before .found2 .given .1),
-    )) loop-again-2 (λ c. search needs) (λ c. c .before .before .before .loop .inv .1)
-    (λ c. ends (c .before .before) (turn-at _ _ _ (c .before .before .next .ensures) (c .enum-told2 .given .1))))
+    (tie.spec Inv-loop μ-loop loop-holds (λ c κs. search needs) (λ c. c .before .before .loop .inv .1) (λ c. ends (c .before) (c .if1 .taken))
+    (λ c. omega (arith, ends-at (c .before) (some-of c), small (c .before) (some-of c))) (λ c. omega (arith, slice-write-table c)) slice-write-table
+    (λ c. omega (arith, slice-write-table c)) (λ c. omega (arith, ends-at (c .before) (some-of c)))
+    (λ c. omega (arith, ends-at (c .before) (some-of c), some-of c)) (λ c. again (c .before) (some-of c)))

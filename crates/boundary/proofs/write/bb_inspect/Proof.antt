@@ -1,0 +1,27 @@
+-- `boundary::write::bb_inspect` meets its contract: what the entry says is handed over, and what it wrote stays. Assumes nothing.
+use Rattle.boundary.specs.Handed.{one}
+use Rattle.boundary.proofs.Handing.{says-short, says-as, kept, changed}
+use borrow.Author.Needs.{needs}
+use Rattle.boundary.proofs.write.bb_inspect.Statement.{statement}
+use Rattle.boundary.proofs.write.bb_inspect.Tie as tie
+
+-- src/write.rt:55:9
+returns : tie.Need-returns
+returns c =
+    (says-short one _ _ (c .if1 .taken), kept _ _ (c .if1 .taken))
+
+-- src/write.rt:57:17
+-- src/write.rt:57:5
+-- src/write.rt:50:1
+-- src/write.rt:50:1
+-- src/write.rt:50:1
+returns-2 : tie.Need-returns-2
+returns-2 c =
+    let d = c .before .before in
+    let e = d .before .before .before .before in
+    (says-as 1 one _ (d .count .ensures) (e .inspect .ensures .0), changed _ _ (e .before .before .if1 .left) (e .inspect .ensures .1))
+
+pub bb-inspect-spec : {M : Type 1} → statement M
+bb-inspect-spec =
+    tie.close
+    (tie.spec returns (λ c κs. search needs) (λ c κs. search needs) (λ c. search needs) (λ c. search needs) returns-2)
