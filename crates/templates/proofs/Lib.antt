@@ -2,6 +2,7 @@ pub mod Both
 pub mod Judging
 pub mod Program
 pub mod Runs
+pub mod Numbered
 pub mod Parts
 pub mod Order
 pub mod Spending

@@ -6,12 +6,13 @@ use opcodes::OP_PUSHNUM_16;
 use walk::Cursor;
 use walk::Found;
 use walk::Mode;
-ghost use mathlib.Core.Bool.{false};
+ghost use mathlib.Core.Bool.{true, false};
 ghost use mathlib.Core.Path.{_≡_};
+ghost use lib.ListN.{getD};
 ghost use Rattle.laws.specs.Said.{answers};
 ghost use Rattle.opcodes.specs.Opcode.{numberOf};
 ghost use Rattle.walk.specs.Run.{walkFrom};
-ghost use Rattle.templates.specs.Walked.{isPushOnly, redeemScript, isMultisig, agrees, isEnd, checks, keysThen};
+ghost use Rattle.templates.specs.Walked.{isPushOnly, redeemScript, isMultisig, agrees, isEnd, checks, numberThen, keysThen};
 ghost use Rattle.templates.specs.Answer.{saidPlace};
 
 // The most keys that a multisig may have.
@@ -172,8 +173,8 @@ fn keys(s: &[u8], start: Cursor, m: usize) -> bool
     }
 }
 
-// Whether a script is a bare multisig.
-pub(crate) fn multisig(s: &[u8]) -> bool
+// Whether a script is a bare multisig, by the walk.
+fn walks_multisig(s: &[u8]) -> bool
     ensures { λ r. ⌜ r ≡ isMultisig (now (s .entry)) ⌝ }
 {
     let front = Cursor { at: 0 };
@@ -195,5 +196,30 @@ pub(crate) fn multisig(s: &[u8]) -> bool
             len: _,
         } => false,
         Found::Refused(_) => false,
+    }
+}
+
+// Whether a number opcode stands first.
+fn starts_with_number(s: &[u8]) -> bool
+    ensures { λ r. ⌜ r ≡ numberThen (λ m. true) (numberOf (getD (now (s .entry)) 0 0)) ⌝ }
+{
+    if s.len() == 0 {
+        return false;
+    }
+    let number = opcodes::decode_pushnum(s[0]);
+    match number {
+        Code::Is(_) => true,
+        Code::Nothing => false,
+    }
+}
+
+// Whether a script is a bare multisig. Nothing is walked unless a number opcode stands first, so that any other script costs one test.
+pub(crate) fn multisig(s: &[u8]) -> bool
+    ensures { λ r. ⌜ r ≡ isMultisig (now (s .entry)) ⌝ }
+{
+    if starts_with_number(s) {
+        walks_multisig(s)
+    } else {
+        false
     }
 }
