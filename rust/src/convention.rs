@@ -117,7 +117,7 @@ fn the_table_the_cursor_and_the_number() {
     assert_eq!((none, table), ((7, [LENT; 10]), [LENT as u32; 4]));
 
     let mut cursor = [1, LENT];
-    for (places, values) in [(0, 5), (1, 4), (1, 0), (0, 0)] {
+    for (places, values) in [(0, 6), (1, 5), (1, 0), (0, 0)] {
         let got =
             lend(values, &mut |v, c| unsafe { bb_advance(cursor.as_mut_ptr(), places, s.as_ptr(), 2, PLAIN, v, c) });
         assert_eq!((got, cursor), ((7, [LENT; 10]), [1, LENT]));

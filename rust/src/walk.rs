@@ -86,11 +86,12 @@ impl Cursor {
     pub fn advance<'a>(&mut self, script: &'a Script, mode: Mode) -> Result<Found<'a>, Refusal> {
         let bytes = script.as_bytes();
         let mut at = self.at as u64;
-        let mut about = [0; 5];
+        let mut values = [0; 6];
         let refused = unsafe {
-            ffi::bb_advance(&mut at, 1, bytes.as_ptr(), bytes.len(), mode as u32, about.as_mut_ptr(), about.len())
+            ffi::bb_advance(&mut at, 1, bytes.as_ptr(), bytes.len(), mode as u32, values.as_mut_ptr(), values.len())
         };
         self.at = at as usize;
+        let [_, about @ ..] = values;
         found(bytes, refused, about)
     }
 
@@ -190,14 +191,17 @@ impl<'a> Iterator for InstructionIndices<'a> {
             return None;
         }
         let refused = step(self.script, self.values[0] as usize, self.mode, &mut self.values);
-        let [_, sort, place, value, body, length] = self.values;
+        // Each value is read where it is used: the library has just written it, and a copy of them all would wait for that.
+        let values = &self.values;
         if refused != 0 {
             self.over = true;
-            return Some(Err(Refusal::given(refused, sort)));
+            return Some(Err(Refusal::given(refused, values[1])));
         }
-        match sort {
-            ffi::OPCODE => Some(Ok((place as usize, Instruction::Op(byte(value))))),
-            ffi::PUSH => Some(Ok((place as usize, Instruction::PushBytes(part(self.script, body, length))))),
+        match values[1] {
+            ffi::OPCODE => Some(Ok((values[2] as usize, Instruction::Op(byte(values[3]))))),
+            ffi::PUSH => {
+                Some(Ok((values[2] as usize, Instruction::PushBytes(part(self.script, values[4], values[5])))))
+            }
             ffi::END => {
                 self.over = true;
                 None
