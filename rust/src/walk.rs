@@ -197,15 +197,14 @@ impl<'a> Iterator for InstructionIndices<'a> {
             self.over = true;
             return Some(Err(Refusal::given(refused, values[1])));
         }
+        // At the script's end the answer is End: it need not be asked for.
+        self.over = values[0] as usize == self.script.len();
         match values[1] {
             ffi::OPCODE => Some(Ok((values[2] as usize, Instruction::Op(byte(values[3]))))),
             ffi::PUSH => {
                 Some(Ok((values[2] as usize, Instruction::PushBytes(part(self.script, values[4], values[5])))))
             }
-            ffi::END => {
-                self.over = true;
-                None
-            }
+            ffi::END => None,
             other => unknown("what a walk finds", other),
         }
     }
