@@ -175,3 +175,19 @@ fn refused_calls_change_no_lent_byte() {
         assert_eq!((all[0], &all[4..]), (LENT, &[LENT; 6][..]), "{name}");
     }
 }
+
+/// A number that is no refusal's becomes neither an answer nor a refusal.
+#[test]
+#[should_panic(expected = "gave 14, which is not a refusal's number")]
+fn an_unknown_number_ends_here() {
+    crate::Refusal::given(14, 0);
+}
+
+#[test]
+fn every_refusal_keeps_its_number_and_value() {
+    for number in 1..=13 {
+        let refusal = crate::Refusal::given(number, 77);
+        let value = if [2, 3, 7].contains(&number) { Some(77) } else { None };
+        assert_eq!((refusal.number(), refusal.value()), (number, value));
+    }
+}

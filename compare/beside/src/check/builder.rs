@@ -172,11 +172,6 @@ impl Run {
                 (builder_said(want, &built), after)
             }
         };
-        match said.number {
-            1 => self.listed(Listed::Limit),
-            6 => self.listed(Listed::Smallest),
-            _ => {}
-        }
         self.ours.ask_buffer((entry_of(call), Via::Raw, 3), buffer, said, &after, |buffer, v| {
             raw_call(length, opcode, buffer, call, v)
         });
