@@ -69,7 +69,7 @@ pub fn about(bytes: &[u8]) -> About {
 }
 
 /// The crate knows P2A on its witness program alone.
-fn is_p2a(script: &Script) -> bool {
+pub fn is_p2a(script: &Script) -> bool {
     match script.witness_version() {
         Some(version) => WitnessProgram::new(version, &script.as_bytes()[2..]).is_ok_and(|program| program.is_p2a()),
         None => false,
@@ -140,7 +140,8 @@ pub fn build(start: &[u8], calls: &[Call]) -> Vec<Outcome<Built>> {
     states
 }
 
-fn push(builder: Builder, call: &Call) -> Builder {
+/// The builder after a call.
+pub fn push(builder: Builder, call: &Call) -> Builder {
     match call {
         Call::Opcode(code) => builder.push_opcode(Opcode::from(*code)),
         Call::Int(n) => builder.push_int(*n),
@@ -152,7 +153,7 @@ fn push(builder: Builder, call: &Call) -> Builder {
 }
 
 /// Equal builders have equal bytes and remember the same; what is remembered is the last byte, or nothing.
-fn built(builder: &Builder) -> Built {
+pub fn built(builder: &Builder) -> Built {
     let bytes = builder.as_bytes().to_vec();
     let remembered = bytes.split_last().and_then(|(last, before)| {
         let remembers = Builder::from(before.to_vec()).push_opcode(Opcode::from(*last));
@@ -179,12 +180,12 @@ pub fn witness(version: u8, program: &[u8]) -> Result<AboutProgram, Refusal> {
 }
 
 thread_local! {
-    /// Whether this thread is asking the crate something that may panic.
+    /// Whether this thread is asking something that may panic.
     static ASKING: Cell<bool> = const { Cell::new(false) };
 }
 
 /// Asks, and catches a panic without a message on the screen.
-fn outcome<T>(ask: impl FnOnce() -> T) -> Outcome<T> {
+pub fn outcome<T>(ask: impl FnOnce() -> T) -> Outcome<T> {
     static QUIET: Once = Once::new();
     QUIET.call_once(|| {
         let usual = take_hook();
@@ -194,13 +195,14 @@ fn outcome<T>(ask: impl FnOnce() -> T) -> Outcome<T> {
             }
         }));
     });
-    ASKING.set(true);
+    let before = ASKING.replace(true);
     let answer = catch_unwind(AssertUnwindSafe(ask));
-    ASKING.set(false);
+    ASKING.set(before);
     answer.map_or(Outcome::Panicked, Outcome::Answer)
 }
 
-fn walk_refusal(error: script::Error, place: usize) -> Refusal {
+/// A walk's error as a refusal at the place where the walk stood.
+pub fn walk_refusal(error: script::Error, place: usize) -> Refusal {
     match error {
         script::Error::NonMinimalPush => Refusal::NonMinimal(place),
         script::Error::EarlyEndOfScript => Refusal::EarlyEnd(place),

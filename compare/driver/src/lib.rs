@@ -6,3 +6,4 @@ pub mod answers;
 pub mod crate_side;
 pub mod hex;
 pub mod lists;
+pub mod paper;

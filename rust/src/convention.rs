@@ -1,0 +1,193 @@
+//! What include/brinebutton.h says of every function: values that are too few are refusal 7 and nothing is changed; a refused call
+//! changes no byte that it is lent.
+
+use std::vec::Vec;
+
+use crate::ffi::*;
+
+/// What stands in values that nobody has written.
+const LENT: u64 = 0xa5a5_a5a5_a5a5_a5a5;
+
+type Ask<'a> = &'a mut dyn FnMut(*mut u64, usize) -> u32;
+
+/// Lends that many values in the middle of ten; what is answered, and all ten.
+fn lend(count: usize, ask: Ask) -> (u32, [u64; 10]) {
+    let mut all = [LENT; 10];
+    let number = ask(all[1..].as_mut_ptr(), count);
+    (number, all)
+}
+
+/// With `needed` values the call answers `number` and writes at most those; with fewer it is refusal 7 and nothing is written.
+fn needs(name: &str, needed: usize, number: u32, ask: Ask) {
+    for fewer in 0..needed {
+        assert_eq!(lend(fewer, ask), (7, [LENT; 10]), "{name} with {fewer} values");
+    }
+    for more in 0..3 {
+        let (got, all) = lend(needed + more, ask);
+        assert_eq!(got, number, "{name}");
+        assert_eq!(all[0], LENT, "{name}");
+        assert_eq!(all[1 + needed..], [LENT; 10][1 + needed..], "{name}");
+    }
+}
+
+#[test]
+fn values_that_are_too_few() {
+    let s = &[0x51, 0x02, 0x4e, 0x73];
+    let (p, n) = (s.as_ptr(), s.len());
+    unsafe {
+        needs("classify", 2, 0, &mut |v, c| bb_classify(5, v, c));
+        needs("decode_pushnum", 2, 0, &mut |v, c| bb_decode_pushnum(0x51, v, c));
+        needs("opcode_to_verify", 2, 0, &mut |v, c| bb_opcode_to_verify(0x87, v, c));
+        needs("name_len", 1, 0, &mut |v, c| bb_name_len(0, v, c));
+        needs("scriptint_len", 1, 0, &mut |v, c| bb_scriptint_len(5, v, c));
+        needs("scriptint_len", 1, 6, &mut |v, c| bb_scriptint_len(i64::MIN, v, c));
+        needs("read_scriptbool", 1, 0, &mut |v, c| bb_read_scriptbool(p, n, v, c));
+        needs("cursor_new", 1, 0, &mut |v, c| bb_cursor_new(v, c));
+        needs("next", 6, 0, &mut |v, c| bb_next(p, n, 0, PLAIN, v, c));
+        needs("next", 6, 8, &mut |v, c| bb_next(p, n, 5, PLAIN, v, c));
+        needs("next", 6, 3, &mut |v, c| bb_next(p, 3, 1, MINIMAL, v, c));
+        needs("body", 2, 0, &mut |v, c| bb_body(p, n, 1, PLAIN, v, c));
+        needs("is_p2sh", 1, 0, &mut |v, c| bb_is_p2sh(p, n, v, c));
+        needs("is_p2pkh", 1, 0, &mut |v, c| bb_is_p2pkh(p, n, v, c));
+        needs("is_witness_program", 1, 0, &mut |v, c| bb_is_witness_program(p, n, v, c));
+        needs("is_p2wpkh", 1, 0, &mut |v, c| bb_is_p2wpkh(p, n, v, c));
+        needs("is_p2wsh", 1, 0, &mut |v, c| bb_is_p2wsh(p, n, v, c));
+        needs("is_p2tr", 1, 0, &mut |v, c| bb_is_p2tr(p, n, v, c));
+        needs("is_p2a", 1, 0, &mut |v, c| bb_is_p2a(p, n, v, c));
+        needs("is_p2pk", 1, 0, &mut |v, c| bb_is_p2pk(p, n, v, c));
+        needs("is_multisig", 1, 0, &mut |v, c| bb_is_multisig(p, n, v, c));
+        needs("is_op_return", 1, 0, &mut |v, c| bb_is_op_return(p, n, v, c));
+        needs("is_push_only", 1, 0, &mut |v, c| bb_is_push_only(p, n, v, c));
+        needs("witness_version", 2, 0, &mut |v, c| bb_witness_version(p, n, v, c));
+        needs("p2pk_key", 3, 0, &mut |v, c| bb_p2pk_key(p, n, v, c));
+        needs("redeem_script", 3, 0, &mut |v, c| bb_redeem_script(p, n, v, c));
+        needs("p2pk_key_part", 2, 0, &mut |v, c| bb_p2pk_key_part(p, n, v, c));
+        needs("redeem_part", 2, 0, &mut |v, c| bb_redeem_part(p, n, v, c));
+        needs("kind", 1, 0, &mut |v, c| bb_kind(p, n, v, c));
+        needs("count_sigops", 1, 0, &mut |v, c| bb_count_sigops(p, n, v, c));
+        needs("count_sigops_legacy", 1, 0, &mut |v, c| bb_count_sigops_legacy(p, n, v, c));
+        needs("minimal_non_dust", 1, 0, &mut |v, c| bb_minimal_non_dust(p, n, v, c));
+        needs("minimal_non_dust_custom", 1, 9, &mut |v, c| bb_minimal_non_dust_custom(p, n, u64::MAX, v, c));
+        needs("asm_len", 1, 0, &mut |v, c| bb_asm_len(p, n, v, c));
+        needs("builder_new", 2, 0, &mut |v, c| bb_builder_new(v, c));
+        needs("builder_start", 3, 13, &mut |v, c| bb_builder_start(p, n, 5, v, c));
+        needs("builder_as_bytes", 1, 0, &mut |v, c| bb_builder_as_bytes(4, NOTHING, p, n, v, c));
+    }
+}
+
+/// The same where bytes or entries are lent besides: with too few values they are as they were.
+#[test]
+fn lent_bytes_when_values_are_too_few() {
+    let p2wpkh = [&[0x00, 0x14][..], &[9; 20]].concat();
+    type Write<'a> = &'a dyn Fn(*mut u8, usize, *mut u64, usize) -> u32;
+    let writers: [(&str, usize, Write); 13] = unsafe {
+        [
+            ("write_name", 1, &|o, r, v, c| bb_write_name(0x51, o, r, v, c)),
+            ("write_scriptint", 1, &|o, r, v, c| bb_write_scriptint(1000, o, r, v, c)),
+            ("p2wpkh_script_code", 2, &|o, r, v, c| bb_p2wpkh_script_code(p2wpkh.as_ptr(), 22, o, r, v, c)),
+            ("write_asm", 1, &|o, r, v, c| bb_write_asm([0x51].as_ptr(), 1, o, r, v, c)),
+            ("push_opcode", 3, &|o, r, v, c| bb_builder_push_opcode(0, NOTHING, o, r, 0x51, v, c)),
+            ("push_slice", 3, &|o, r, v, c| bb_builder_push_slice(0, NOTHING, o, r, [7; 5].as_ptr(), 5, v, c)),
+            ("push_int", 3, &|o, r, v, c| bb_builder_push_int(0, NOTHING, o, r, 1000, v, c)),
+            ("push_lock_time", 3, &|o, r, v, c| bb_builder_push_lock_time(0, NOTHING, o, r, 1000, v, c)),
+            ("push_sequence", 3, &|o, r, v, c| bb_builder_push_sequence(0, NOTHING, o, r, 1000, v, c)),
+            ("push_verify", 3, &|o, r, v, c| bb_builder_push_verify(0, NOTHING, o, r, v, c)),
+            ("push_verify in place", 3, &|o, r, v, c| bb_builder_push_verify(1, 0xac, o, r, v, c)),
+            ("witness_program", 1, &|o, r, v, c| bb_witness_program(1, [7; 32].as_ptr(), 32, o, r, v, c)),
+            ("inspect", 1, &|o, r, v, c| bb_inspect([0x51].as_ptr(), 1, o, r, v, c)),
+        ]
+    };
+    for (name, needed, write) in writers {
+        for fewer in 0..needed {
+            let mut out = [0xac_u8; 200];
+            assert_eq!(lend(fewer, &mut |v, c| write(out.as_mut_ptr(), 200, v, c)), (7, [LENT; 10]), "{name}");
+            assert_eq!(out, [0xac; 200], "{name} with {fewer} values");
+        }
+        let mut out = [0xac_u8; 200];
+        assert_eq!(lend(needed, &mut |v, c| write(out.as_mut_ptr(), 200, v, c)).0, 0, "{name}");
+        assert!(out != [0xac; 200], "{name} wrote nothing");
+    }
+}
+
+#[test]
+fn the_table_the_cursor_and_the_number() {
+    let s = [0x51, 0x52];
+    let mut table = [LENT as u32; 4];
+    let none = lend(0, &mut |v, c| unsafe { bb_positions(s.as_ptr(), 2, PLAIN, table.as_mut_ptr(), 4, v, c) });
+    assert_eq!((none, table), ((7, [LENT; 10]), [LENT as u32; 4]));
+
+    let mut cursor = [1, LENT];
+    for (places, values) in [(0, 6), (1, 5), (1, 0), (0, 0)] {
+        let got =
+            lend(values, &mut |v, c| unsafe { bb_advance(cursor.as_mut_ptr(), places, s.as_ptr(), 2, PLAIN, v, c) });
+        assert_eq!((got, cursor), ((7, [LENT; 10]), [1, LENT]));
+    }
+
+    let mut number = [LENT as i64; 2];
+    for bytes in [&[1][..], &[0x80], &[0; 5]] {
+        let refused = unsafe {
+            [
+                bb_read_scriptint(bytes.as_ptr(), bytes.len(), number.as_mut_ptr(), 0),
+                bb_read_scriptint_non_minimal(bytes.as_ptr(), bytes.len(), number.as_mut_ptr(), 0),
+            ]
+        };
+        assert_eq!((refused, number), ([7, 7], [LENT as i64; 2]));
+    }
+}
+
+/// Each refusal that can come with a lent buffer leaves all of it as it was, and answers what document 01 says.
+#[test]
+fn refused_calls_change_no_lent_byte() {
+    let p2wpkh = [&[0x00, 0x14][..], &[9; 20]].concat();
+    let long = std::vec![0x51; crate::MAX_SCRIPT_LEN + 1];
+    type Write<'a> = &'a dyn Fn(*mut u8, usize, *mut u64, usize) -> u32;
+    let builder = [LENT, LENT, LENT];
+    let refusals: [(&str, usize, (u32, [u64; 3]), Write); 13] = unsafe {
+        [
+            ("write_name", 11, (7, [12, LENT, LENT]), &|o, r, v, c| bb_write_name(0x51, o, r, v, c)),
+            ("write_scriptint", 1, (7, [2, LENT, LENT]), &|o, r, v, c| bb_write_scriptint(1000, o, r, v, c)),
+            ("write_scriptint", 9, (6, builder), &|o, r, v, c| bb_write_scriptint(i64::MIN, o, r, v, c)),
+            ("script code", 24, (7, [25, LENT, LENT]), &|o, r, v, c| {
+                bb_p2wpkh_script_code(p2wpkh.as_ptr(), 22, o, r, v, c)
+            }),
+            ("write_asm", 11, (7, [12, LENT, LENT]), &|o, r, v, c| bb_write_asm([0x51].as_ptr(), 1, o, r, v, c)),
+            ("write_asm", 99, (1, builder), &|o, r, v, c| bb_write_asm(long.as_ptr(), long.len(), o, r, v, c)),
+            ("push_opcode", 3, (7, [3, 256, 4]), &|o, r, v, c| bb_builder_push_opcode(3, NOTHING, o, r, 0x51, v, c)),
+            ("push_opcode", 3, (13, [4, 256, LENT]), &|o, r, v, c| {
+                bb_builder_push_opcode(4, NOTHING, o, r, 0x51, v, c)
+            }),
+            ("push_opcode", 3, (13, [3, 0x51, LENT]), &|o, r, v, c| bb_builder_push_opcode(3, 0x51, o, r, 0x51, v, c)),
+            ("push_slice", 8, (7, [3, 0xac, 9]), &|o, r, v, c| {
+                bb_builder_push_slice(3, 0xac, o, r, [7; 5].as_ptr(), 5, v, c)
+            }),
+            ("push_int", 99, (6, [3, 0xac, LENT]), &|o, r, v, c| bb_builder_push_int(3, 0xac, o, r, i64::MIN, v, c)),
+            ("witness_program", 33, (7, [34, LENT, LENT]), &|o, r, v, c| {
+                bb_witness_program(1, [7; 32].as_ptr(), 32, o, r, v, c)
+            }),
+            ("inspect", 12, (7, [13, LENT, LENT]), &|o, r, v, c| bb_inspect(long.as_ptr(), long.len(), o, r, v, c)),
+        ]
+    };
+    for (name, room, expected, write) in refusals {
+        let mut out: Vec<u8> = std::vec![0xac; room + 2];
+        let (number, all) = lend(3, &mut |v, c| write(out[1..].as_mut_ptr(), room, v, c));
+        assert_eq!((number, [all[1], all[2], all[3]]), expected, "{name}");
+        assert!(out.iter().all(|byte| *byte == 0xac), "{name} wrote something");
+        assert_eq!((all[0], &all[4..]), (LENT, &[LENT; 6][..]), "{name}");
+    }
+}
+
+/// A number that is no refusal's becomes neither an answer nor a refusal.
+#[test]
+#[should_panic(expected = "gave 14, which is not a refusal's number")]
+fn an_unknown_number_ends_here() {
+    crate::Refusal::given(14, 0);
+}
+
+#[test]
+fn every_refusal_keeps_its_number_and_value() {
+    for number in 1..=13 {
+        let refusal = crate::Refusal::given(number, 77);
+        let value = if [2, 3, 7].contains(&number) { Some(77) } else { None };
+        assert_eq!((refusal.number(), refusal.value()), (number, value));
+    }
+}

@@ -1,0 +1,114 @@
+//! The refusals of document 01.
+
+use core::fmt;
+
+/// Why there is no answer. A refused call has changed nothing that it was lent.
+#[derive(Clone, Copy, Debug, PartialEq, Eq, Hash)]
+pub enum Refusal {
+    /// 1: a script, a builder's used length, `read_scriptbool`'s bytes or a built script exceeds 4,194,304 bytes.
+    TooLong,
+    /// 2: minimal mode, a push that has a shorter form; the place where it starts.
+    NonMinimal(usize),
+    /// 3: a push's length bytes or body are cut; the place where it starts.
+    EarlyEnd(usize),
+    /// 4: a number to be read has over 4 bytes.
+    NumberTooLong,
+    /// 5: strict reader, not the writer's form.
+    NumberNotMinimal,
+    /// 6: writing -2^63.
+    NumberOutOfRange,
+    /// 7: the lent output is shorter than this many bytes or entries.
+    NoRoom(usize),
+    /// 8: a position above the script's length.
+    BadCursor,
+    /// 9: the rate times 4, or the rate then used times the size, exceeds 2^64 - 1.
+    FeeTooLarge,
+    /// 10: a witness program outside 2 to 40 bytes.
+    ProgramLength,
+    /// 11: version 0 and neither 20 nor 32 bytes.
+    ProgramLengthV0,
+    /// 12: a version above 16.
+    BadVersion,
+    /// 13: a builder's length above the buffer's, or what it remembers is not the last used byte.
+    BadBuilder,
+}
+
+impl Refusal {
+    /// The refusal's number in document 01.
+    pub const fn number(self) -> u32 {
+        match self {
+            Refusal::TooLong => 1,
+            Refusal::NonMinimal(_) => 2,
+            Refusal::EarlyEnd(_) => 3,
+            Refusal::NumberTooLong => 4,
+            Refusal::NumberNotMinimal => 5,
+            Refusal::NumberOutOfRange => 6,
+            Refusal::NoRoom(_) => 7,
+            Refusal::BadCursor => 8,
+            Refusal::FeeTooLarge => 9,
+            Refusal::ProgramLength => 10,
+            Refusal::ProgramLengthV0 => 11,
+            Refusal::BadVersion => 12,
+            Refusal::BadBuilder => 13,
+        }
+    }
+
+    /// The place or the need that stands beside the number, where one does.
+    pub const fn value(self) -> Option<usize> {
+        match self {
+            Refusal::NonMinimal(value) | Refusal::EarlyEnd(value) | Refusal::NoRoom(value) => Some(value),
+            _ => None,
+        }
+    }
+
+    /// What the library's number and value say.
+    #[cold]
+    pub(crate) fn given(number: u32, value: u64) -> Refusal {
+        let value = value as usize;
+        match number {
+            1 => Refusal::TooLong,
+            2 => Refusal::NonMinimal(value),
+            3 => Refusal::EarlyEnd(value),
+            4 => Refusal::NumberTooLong,
+            5 => Refusal::NumberNotMinimal,
+            6 => Refusal::NumberOutOfRange,
+            7 => Refusal::NoRoom(value),
+            8 => Refusal::BadCursor,
+            9 => Refusal::FeeTooLarge,
+            10 => Refusal::ProgramLength,
+            11 => Refusal::ProgramLengthV0,
+            12 => Refusal::BadVersion,
+            13 => Refusal::BadBuilder,
+            other => unknown("a refusal's number", other.into()),
+        }
+    }
+}
+
+/// A number that the library's contracts shut out. It ends here: passed on, it would look like an answer.
+#[cold]
+#[inline(never)]
+pub(crate) fn unknown(expected: &str, got: u64) -> ! {
+    panic!("libboundary.a gave {got}, which is not {expected}: is it the library that this package was written for?")
+}
+
+impl fmt::Display for Refusal {
+    fn fmt(&self, f: &mut fmt::Formatter) -> fmt::Result {
+        match self {
+            Refusal::TooLong => f.write_str("more than 4,194,304 bytes"),
+            Refusal::NonMinimal(place) => write!(f, "the push at {place} has a shorter form"),
+            Refusal::EarlyEnd(place) => write!(f, "the push at {place} is cut"),
+            Refusal::NumberTooLong => f.write_str("a number of more than 4 bytes"),
+            Refusal::NumberNotMinimal => f.write_str("a number that is not in its shortest form"),
+            Refusal::NumberOutOfRange => f.write_str("-2^63 cannot be written"),
+            Refusal::NoRoom(needed) => write!(f, "no room: {needed} are needed"),
+            Refusal::BadCursor => f.write_str("a position above the script's length"),
+            Refusal::FeeTooLarge => f.write_str("the fee exceeds 64 bits"),
+            Refusal::ProgramLength => f.write_str("a witness program outside 2 to 40 bytes"),
+            Refusal::ProgramLengthV0 => f.write_str("a witness program of version 0 with neither 20 nor 32 bytes"),
+            Refusal::BadVersion => f.write_str("a witness version above 16"),
+            Refusal::BadBuilder => f.write_str("a builder that does not fit its buffer"),
+        }
+    }
+}
+
+impl core::error::Error for Refusal {}
