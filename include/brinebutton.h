@@ -1,7 +1,7 @@
 /*
  * Brinebutton: questions about Bitcoin scripts, every answer proved.
  *
- * Link with target/staticlib/libboundary.a, which `rt staticlib boundary` makes (x86-64, no other library is needed).
+ * Link with target/staticlib/libboundary.a, which `rt staticlib boundary` makes (x86-64; beside it nothing but the C library).
  *
  * One convention for all functions:
  * - The result is the number of a refusal, one of BB_TOO_LONG .. below, or 0 where nothing is refused.
@@ -162,7 +162,7 @@ uint32_t bb_write_asm(const uint8_t *script, size_t script_len, uint8_t *out, si
 /*
  * The builder: a script at the front of a buffer. Its state is two numbers, the used length and the opcode that is remembered (BB_NOTHING for none).
  * values, 3 entries: the state for the next call, two entries, and after refusal 7 the whole length that is needed. After a refusal that is the state
- * which the call got, and the buffer is as it was.
+ * which the call got (BB_NOTHING for a larger number), and the buffer is as it was.
  */
 
 /* An empty script, nothing remembered. values, 2 entries: 0 and BB_NOTHING. */

@@ -1,9 +1,9 @@
 //! How long both sides take for the same job, in one process, turn by turn.
 //!
-//! Each side does a whole job behind a call that is not inlined. A line gives the best round of each side, in processor time of this thread, and
-//! their ratio. What ours is lent
-//! (tables, buffers, strings) is made once, reused, and not cleared between calls; the crate's vectors and strings are reused too where its interface
-//! lets them be. The crate's builder allocates, which is how it is made.
+//! Each side answers for one script, one number or one builder behind one call that is not inlined. For ours that is the library's own function; the
+//! crate's is put into one. A walk to the end, a text into a string and a builder are one such call on both sides, within which the crate's code can be
+//! inlined and the library's cannot. A line gives the best round of each side, in processor time of this thread, and their ratio. What ours is lent (tables, buffers, strings) is made once, reused, and not cleared between calls; the crate's vectors and strings are reused too
+//! where its interface lets them be. The crate's builder allocates, which is how it is made.
 
 use std::hint::black_box;
 
@@ -16,147 +16,153 @@ use compare::lists::{push, Random};
 /// Scripts that one job goes through, once each.
 type Scripts = [Vec<u8>];
 
+/// One side's answer for each script, added up.
+fn each(scripts: &Scripts, mut answer: impl FnMut(&[u8]) -> u64) -> u64 {
+    scripts.iter().map(|script| answer(script)).fold(0, u64::wrapping_add)
+}
+
 #[inline(never)]
-fn ours_walk(scripts: &Scripts) -> u64 {
+fn ours_walk(script: &[u8]) -> u64 {
     let seen = |item: Result<bb::Instruction, _>| match item {
         Ok(bb::Instruction::Op(code)) => code.into(),
         Ok(bb::Instruction::PushBytes(body)) => body.len() as u64,
         Err(_) => 1,
     };
-    scripts.iter().map(|script| bb::Script::from_bytes(script).instructions().map(seen).sum::<u64>()).sum()
+    bb::Script::from_bytes(script).instructions().map(seen).sum::<u64>()
 }
 
 #[inline(never)]
-fn crates_walk(scripts: &Scripts) -> u64 {
+fn crates_walk(script: &[u8]) -> u64 {
     let seen = |item: Result<Instruction, _>| match item {
         Ok(Instruction::Op(code)) => code.to_u8().into(),
         Ok(Instruction::PushBytes(body)) => body.len() as u64,
         Err(_) => 1,
     };
-    scripts.iter().map(|script| Script::from_bytes(script).instructions().map(seen).sum::<u64>()).sum()
+    Script::from_bytes(script).instructions().map(seen).sum::<u64>()
 }
 
 #[inline(never)]
-fn ours_walk_minimal(scripts: &Scripts) -> u64 {
+fn ours_walk_minimal(script: &[u8]) -> u64 {
     let seen = |item: Result<bb::Instruction, _>| match item {
         Ok(bb::Instruction::Op(code)) => code.into(),
         Ok(bb::Instruction::PushBytes(body)) => body.len() as u64,
         Err(_) => 1,
     };
-    scripts.iter().map(|script| bb::Script::from_bytes(script).instructions_minimal().map(seen).sum::<u64>()).sum()
+    bb::Script::from_bytes(script).instructions_minimal().map(seen).sum::<u64>()
 }
 
 #[inline(never)]
-fn crates_walk_minimal(scripts: &Scripts) -> u64 {
+fn crates_walk_minimal(script: &[u8]) -> u64 {
     let seen = |item: Result<Instruction, _>| match item {
         Ok(Instruction::Op(code)) => code.to_u8().into(),
         Ok(Instruction::PushBytes(body)) => body.len() as u64,
         Err(_) => 1,
     };
-    scripts.iter().map(|script| Script::from_bytes(script).instructions_minimal().map(seen).sum::<u64>()).sum()
+    Script::from_bytes(script).instructions_minimal().map(seen).sum::<u64>()
+}
+
+#[inline]
+fn ours_positions(script: &[u8], table: &mut [u32]) -> u64 {
+    bb::Script::from_bytes(script).positions(bb::Mode::Plain, table).unwrap() as u64
 }
 
 #[inline(never)]
-fn ours_positions(scripts: &Scripts, table: &mut [u32]) -> u64 {
-    scripts.iter().map(|s| bb::Script::from_bytes(s).positions(bb::Mode::Plain, table).unwrap() as u64).sum()
+fn crates_positions(script: &[u8], table: &mut Vec<u32>) -> u64 {
+    table.clear();
+    table.extend(Script::from_bytes(script).instruction_indices().map(|item| item.unwrap().0 as u32));
+    table.len() as u64
+}
+
+#[inline]
+fn ours_count(script: &[u8]) -> u64 {
+    bb::Script::from_bytes(script).count_sigops().unwrap() as u64
 }
 
 #[inline(never)]
-fn crates_positions(scripts: &Scripts, table: &mut Vec<u32>) -> u64 {
-    let places = |script: &Vec<u8>| {
-        table.clear();
-        table.extend(Script::from_bytes(script).instruction_indices().map(|item| item.unwrap().0 as u32));
-        table.len() as u64
-    };
-    scripts.iter().map(places).sum()
+fn crates_count(script: &[u8]) -> u64 {
+    Script::from_bytes(script).count_sigops() as u64
+}
+
+#[inline]
+fn ours_count_legacy(script: &[u8]) -> u64 {
+    bb::Script::from_bytes(script).count_sigops_legacy().unwrap() as u64
 }
 
 #[inline(never)]
-fn ours_count(scripts: &Scripts) -> u64 {
-    scripts.iter().map(|s| bb::Script::from_bytes(s).count_sigops().unwrap() as u64).sum()
+fn crates_count_legacy(script: &[u8]) -> u64 {
+    Script::from_bytes(script).count_sigops_legacy() as u64
+}
+
+#[inline]
+fn ours_kind(script: &[u8]) -> u64 {
+    bb::Script::from_bytes(script).kind().unwrap() as u64
 }
 
 #[inline(never)]
-fn crates_count(scripts: &Scripts) -> u64 {
-    scripts.iter().map(|s| Script::from_bytes(s).count_sigops() as u64).sum()
+fn crates_kind(script: &[u8]) -> u64 {
+    let script = Script::from_bytes(script);
+    if script.is_p2pkh() {
+        0
+    } else if script.is_p2sh() {
+        1
+    } else if script.is_p2wpkh() {
+        2
+    } else if script.is_p2wsh() {
+        3
+    } else if script.is_p2tr() {
+        4
+    } else if crate_side::is_p2a(script) {
+        5
+    } else if script.is_witness_program() {
+        6
+    } else if script.is_p2pk() {
+        7
+    } else if script.is_multisig() {
+        8
+    } else if script.is_op_return() {
+        9
+    } else {
+        10
+    }
+}
+
+#[inline]
+fn ours_dust(script: &[u8]) -> u64 {
+    bb::Script::from_bytes(script).minimal_non_dust().unwrap()
 }
 
 #[inline(never)]
-fn ours_count_legacy(scripts: &Scripts) -> u64 {
-    scripts.iter().map(|s| bb::Script::from_bytes(s).count_sigops_legacy().unwrap() as u64).sum()
+fn crates_dust(script: &[u8]) -> u64 {
+    Script::from_bytes(script).minimal_non_dust().to_sat()
 }
 
 #[inline(never)]
-fn crates_count_legacy(scripts: &Scripts) -> u64 {
-    scripts.iter().map(|s| Script::from_bytes(s).count_sigops_legacy() as u64).sum()
+fn ours_text(script: &[u8], text: &mut String) -> u64 {
+    text.clear();
+    bb::Script::from_bytes(script).fmt_asm(text).unwrap();
+    text.len() as u64
+}
+
+#[inline]
+fn ours_text_lent(script: &[u8], out: &mut [u8]) -> u64 {
+    bb::Script::from_bytes(script).write_asm(out).unwrap() as u64
 }
 
 #[inline(never)]
-fn ours_kind(scripts: &Scripts) -> u64 {
-    scripts.iter().map(|s| bb::Script::from_bytes(s).kind().unwrap() as u64).sum()
+fn crates_text(script: &[u8], text: &mut String) -> u64 {
+    text.clear();
+    Script::from_bytes(script).fmt_asm(text).unwrap();
+    text.len() as u64
+}
+
+#[inline]
+fn ours_redeem(script: &[u8]) -> u64 {
+    bb::Script::from_bytes(script).redeem_script().unwrap().map_or(1, |s| s.len() as u64)
 }
 
 #[inline(never)]
-fn crates_kind(scripts: &Scripts) -> u64 {
-    let tests: [fn(&Script) -> bool; 10] = [
-        Script::is_p2pkh,
-        Script::is_p2sh,
-        Script::is_p2wpkh,
-        Script::is_p2wsh,
-        Script::is_p2tr,
-        crate_side::is_p2a,
-        Script::is_witness_program,
-        Script::is_p2pk,
-        Script::is_multisig,
-        Script::is_op_return,
-    ];
-    let kind = |s: &Vec<u8>| tests.iter().position(|test| test(Script::from_bytes(s))).unwrap_or(10) as u64;
-    scripts.iter().map(kind).sum()
-}
-
-#[inline(never)]
-fn ours_dust(scripts: &Scripts) -> u64 {
-    scripts.iter().map(|s| bb::Script::from_bytes(s).minimal_non_dust().unwrap()).sum()
-}
-
-#[inline(never)]
-fn crates_dust(scripts: &Scripts) -> u64 {
-    scripts.iter().map(|s| Script::from_bytes(s).minimal_non_dust().to_sat()).sum()
-}
-
-#[inline(never)]
-fn ours_text(scripts: &Scripts, text: &mut String) -> u64 {
-    let write = |script: &Vec<u8>| {
-        text.clear();
-        bb::Script::from_bytes(script).fmt_asm(text).unwrap();
-        text.len() as u64
-    };
-    scripts.iter().map(write).sum()
-}
-
-#[inline(never)]
-fn ours_text_lent(scripts: &Scripts, out: &mut [u8]) -> u64 {
-    scripts.iter().map(|script| bb::Script::from_bytes(script).write_asm(out).unwrap() as u64).sum()
-}
-
-#[inline(never)]
-fn crates_text(scripts: &Scripts, text: &mut String) -> u64 {
-    let write = |script: &Vec<u8>| {
-        text.clear();
-        Script::from_bytes(script).fmt_asm(text).unwrap();
-        text.len() as u64
-    };
-    scripts.iter().map(write).sum()
-}
-
-#[inline(never)]
-fn ours_redeem(scripts: &Scripts) -> u64 {
-    scripts.iter().map(|s| bb::Script::from_bytes(s).redeem_script().unwrap().map_or(1, |s| s.len() as u64)).sum()
-}
-
-#[inline(never)]
-fn crates_redeem(scripts: &Scripts) -> u64 {
-    scripts.iter().map(|s| Script::from_bytes(s).redeem_script().map_or(1, |s| s.len() as u64)).sum()
+fn crates_redeem(script: &[u8]) -> u64 {
+    Script::from_bytes(script).redeem_script().map_or(1, |s| s.len() as u64)
 }
 
 /// A 2-of-3 redeem script with a lock time before it: ten calls.
@@ -189,27 +195,24 @@ fn crates_build(keys: &[[u8; 33]]) -> u64 {
     builder.as_bytes().len() as u64
 }
 
-#[inline(never)]
-fn ours_read(scripts: &Scripts) -> u64 {
-    scripts.iter().map(|bytes| bb::read_scriptint(bytes).map_or(1, |n| n as u64)).fold(0, u64::wrapping_add)
+#[inline]
+fn ours_read(bytes: &[u8]) -> u64 {
+    bb::read_scriptint(bytes).map_or(1, |n| n as u64)
 }
 
 #[inline(never)]
-fn crates_read(scripts: &Scripts) -> u64 {
-    scripts.iter().map(|b| bitcoin::script::read_scriptint(b).map_or(1, |n| n as u64)).fold(0, u64::wrapping_add)
+fn crates_read(bytes: &[u8]) -> u64 {
+    bitcoin::script::read_scriptint(bytes).map_or(1, |n| n as u64)
+}
+
+#[inline]
+fn ours_write(number: i64, out: &mut [u8; 8]) -> u64 {
+    bb::write_scriptint(out, number).unwrap() as u64
 }
 
 #[inline(never)]
-fn ours_write(numbers: &[i64]) -> u64 {
-    let mut out = [0; 8];
-    let write = |n: &i64| bb::write_scriptint(black_box(&mut out), *n).unwrap() as u64;
-    numbers.iter().map(write).sum()
-}
-
-#[inline(never)]
-fn crates_write(numbers: &[i64]) -> u64 {
-    let mut out = [0; 8];
-    numbers.iter().map(|n| bitcoin::script::write_scriptint(black_box(&mut out), *n) as u64).sum()
+fn crates_write(number: i64, out: &mut [u8; 8]) -> u64 {
+    bitcoin::script::write_scriptint(out, number) as u64
 }
 
 /// Seconds that the processor has spent on this thread: others on the machine do not count.
@@ -314,25 +317,29 @@ fn main() {
 
     println!("{:<26} {:<34} {:>12} {:>12} {:>7}", "job", "input", "ours", "crate", "ratio");
     for (name, scripts) in &inputs {
-        line("walk, plain", name, &mut || ours_walk(scripts), &mut || crates_walk(scripts));
-        line("walk, minimal", name, &mut || ours_walk_minimal(scripts), &mut || crates_walk_minimal(scripts));
-        line("positions", name, &mut || ours_positions(scripts, &mut table), &mut || {
-            crates_positions(scripts, &mut crates_table)
+        line("walk, plain", name, &mut || each(scripts, ours_walk), &mut || each(scripts, crates_walk));
+        line("walk, minimal", name, &mut || each(scripts, ours_walk_minimal), &mut || {
+            each(scripts, crates_walk_minimal)
         });
-        line("count_sigops", name, &mut || ours_count(scripts), &mut || crates_count(scripts));
-        line("count_sigops_legacy", name, &mut || ours_count_legacy(scripts), &mut || crates_count_legacy(scripts));
-        line("kind", name, &mut || ours_kind(scripts), &mut || crates_kind(scripts));
-        line("minimal_non_dust", name, &mut || ours_dust(scripts), &mut || crates_dust(scripts));
-        line("text into a string", name, &mut || ours_text(scripts, &mut text), &mut || {
-            crates_text(scripts, &mut crates_text_buffer)
+        line("positions", name, &mut || each(scripts, |s| ours_positions(s, &mut table)), &mut || {
+            each(scripts, |s| crates_positions(s, &mut crates_table))
         });
-        line("text into a lent buffer", name, &mut || ours_text_lent(scripts, &mut out), &mut || {
-            crates_text(scripts, &mut crates_text_buffer)
+        line("count_sigops", name, &mut || each(scripts, ours_count), &mut || each(scripts, crates_count));
+        line("count_sigops_legacy", name, &mut || each(scripts, ours_count_legacy), &mut || {
+            each(scripts, crates_count_legacy)
         });
-        line("redeem_script", name, &mut || ours_redeem(scripts), &mut || crates_redeem(scripts));
+        line("kind", name, &mut || each(scripts, ours_kind), &mut || each(scripts, crates_kind));
+        line("minimal_non_dust", name, &mut || each(scripts, ours_dust), &mut || each(scripts, crates_dust));
+        line("text into a string", name, &mut || each(scripts, |s| ours_text(s, &mut text)), &mut || {
+            each(scripts, |s| crates_text(s, &mut crates_text_buffer))
+        });
+        line("text into a lent buffer", name, &mut || each(scripts, |s| ours_text_lent(s, &mut out)), &mut || {
+            each(scripts, |s| crates_text(s, &mut crates_text_buffer))
+        });
+        line("redeem_script", name, &mut || each(scripts, ours_redeem), &mut || each(scripts, crates_redeem));
     }
-    line("redeem_script", "12 inputs with a redeem script", &mut || ours_redeem(&signed), &mut || {
-        crates_redeem(&signed)
+    line("redeem_script", "12 inputs with a redeem script", &mut || each(&signed, ours_redeem), &mut || {
+        each(&signed, crates_redeem)
     });
     let keys = [[2; 33], [3; 33], [2; 33]];
     line(
@@ -350,8 +357,14 @@ fn main() {
             out[..count].to_vec()
         })
         .collect();
-    line("read_scriptint", "256 numbers", &mut || ours_read(&written), &mut || crates_read(&written));
-    line("write_scriptint", "256 numbers", &mut || ours_write(&numbers), &mut || crates_write(&numbers));
+    line("read_scriptint", "256 numbers", &mut || each(&written, ours_read), &mut || each(&written, crates_read));
+    let (mut ours, mut crates) = ([0; 8], [0; 8]);
+    line(
+        "write_scriptint",
+        "256 numbers",
+        &mut || numbers.iter().map(|n| ours_write(*n, &mut ours)).sum(),
+        &mut || numbers.iter().map(|n| crates_write(*n, &mut crates)).sum(),
+    );
 
     println!("\nOurs, nanoseconds for a byte of script, by its length:");
     println!("{:<26} {:<20} {:>9} {:>9} {:>9} {:>9}", "job", "input", "4 KiB", "64 KiB", "1 MiB", "4 MiB");
@@ -366,12 +379,12 @@ fn main() {
             let costs: Vec<String> = scripts.iter().map(cost).map(|ns| format!("{ns:>9.4}")).collect();
             println!("{job:<26} {name:<20} {}", costs.join(" "));
         };
-        grown("walk, plain", &mut ours_walk);
-        grown("walk, minimal", &mut ours_walk_minimal);
-        grown("positions", &mut |scripts| ours_positions(scripts, &mut table));
-        grown("count_sigops", &mut ours_count);
-        grown("count_sigops_legacy", &mut ours_count_legacy);
-        grown("text into a lent buffer", &mut |scripts| ours_text_lent(scripts, &mut out));
-        grown("redeem_script", &mut ours_redeem);
+        grown("walk, plain", &mut |scripts| each(scripts, ours_walk));
+        grown("walk, minimal", &mut |scripts| each(scripts, ours_walk_minimal));
+        grown("positions", &mut |scripts| each(scripts, |s| ours_positions(s, &mut table)));
+        grown("count_sigops", &mut |scripts| each(scripts, ours_count));
+        grown("count_sigops_legacy", &mut |scripts| each(scripts, ours_count_legacy));
+        grown("text into a lent buffer", &mut |scripts| each(scripts, |s| ours_text_lent(s, &mut out)));
+        grown("redeem_script", &mut |scripts| each(scripts, ours_redeem));
     }
 }
