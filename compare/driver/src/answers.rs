@@ -79,6 +79,24 @@ pub struct About {
     pub asm: Vec<u8>,
 }
 
+impl About {
+    /// The tests that cannot fail, under their names: eight in document 01's order of kinds, and the last two.
+    pub fn tests(&self) -> [(&'static str, bool); 10] {
+        [
+            ("is_p2pkh", self.is_p2pkh),
+            ("is_p2sh", self.is_p2sh),
+            ("is_p2wpkh", self.is_p2wpkh),
+            ("is_p2wsh", self.is_p2wsh),
+            ("is_p2tr", self.is_p2tr),
+            ("is_p2a", self.is_p2a),
+            ("is_witness_program", self.is_witness_program),
+            ("is_p2pk", self.is_p2pk),
+            ("is_op_return", self.is_op_return),
+            ("is_push_only", self.is_push_only),
+        ]
+    }
+}
+
 /// Custom rates, in satoshi per 1000 weight units: small ones, the default (750), and around what 64 bits hold.
 pub const RATES: [u64; 10] = [0, 1, 251, 750, 751, 1_000_000, 1 << 53, (1 << 62) - 1, 1 << 62, u64::MAX];
 

@@ -21,18 +21,8 @@ fn w1_the_empty_script() {
     assert_eq!(about.plain, []);
     assert_eq!(about.minimal, []);
     assert_eq!(about.minimal_non_dust, 471);
-    let kinds = [
-        about.is_p2pkh,
-        about.is_p2sh,
-        about.is_p2wpkh,
-        about.is_p2wsh,
-        about.is_p2tr,
-        about.is_p2a,
-        about.is_witness_program,
-        about.is_p2pk,
-        about.is_op_return,
-    ];
-    assert!(!kinds.contains(&true));
+    let yes: Vec<_> = about.tests().into_iter().filter(|(_, yes)| *yes).map(|(name, _)| name).collect();
+    assert_eq!(yes, ["is_push_only"]);
     assert_eq!(about.is_multisig, Outcome::Answer(false));
 }
 

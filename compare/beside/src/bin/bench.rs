@@ -21,44 +21,41 @@ fn each(scripts: &Scripts, mut answer: impl FnMut(&[u8]) -> u64) -> u64 {
     scripts.iter().map(|script| answer(script)).fold(0, u64::wrapping_add)
 }
 
-#[inline(never)]
-fn ours_walk(script: &[u8]) -> u64 {
-    let seen = |item: Result<bb::Instruction, _>| match item {
+/// What a walk adds up: opcodes and lengths.
+fn ours_seen(item: Result<bb::Instruction, bb::Refusal>) -> u64 {
+    match item {
         Ok(bb::Instruction::Op(code)) => code.into(),
         Ok(bb::Instruction::PushBytes(body)) => body.len() as u64,
         Err(_) => 1,
-    };
-    bb::Script::from_bytes(script).instructions().map(seen).sum::<u64>()
+    }
+}
+
+fn crates_seen<E>(item: Result<Instruction, E>) -> u64 {
+    match item {
+        Ok(Instruction::Op(code)) => code.to_u8().into(),
+        Ok(Instruction::PushBytes(body)) => body.len() as u64,
+        Err(_) => 1,
+    }
+}
+
+#[inline(never)]
+fn ours_walk(script: &[u8]) -> u64 {
+    bb::Script::from_bytes(script).instructions().map(ours_seen).sum()
 }
 
 #[inline(never)]
 fn crates_walk(script: &[u8]) -> u64 {
-    let seen = |item: Result<Instruction, _>| match item {
-        Ok(Instruction::Op(code)) => code.to_u8().into(),
-        Ok(Instruction::PushBytes(body)) => body.len() as u64,
-        Err(_) => 1,
-    };
-    Script::from_bytes(script).instructions().map(seen).sum::<u64>()
+    Script::from_bytes(script).instructions().map(crates_seen).sum()
 }
 
 #[inline(never)]
 fn ours_walk_minimal(script: &[u8]) -> u64 {
-    let seen = |item: Result<bb::Instruction, _>| match item {
-        Ok(bb::Instruction::Op(code)) => code.into(),
-        Ok(bb::Instruction::PushBytes(body)) => body.len() as u64,
-        Err(_) => 1,
-    };
-    bb::Script::from_bytes(script).instructions_minimal().map(seen).sum::<u64>()
+    bb::Script::from_bytes(script).instructions_minimal().map(ours_seen).sum()
 }
 
 #[inline(never)]
 fn crates_walk_minimal(script: &[u8]) -> u64 {
-    let seen = |item: Result<Instruction, _>| match item {
-        Ok(Instruction::Op(code)) => code.to_u8().into(),
-        Ok(Instruction::PushBytes(body)) => body.len() as u64,
-        Err(_) => 1,
-    };
-    Script::from_bytes(script).instructions_minimal().map(seen).sum::<u64>()
+    Script::from_bytes(script).instructions_minimal().map(crates_seen).sum()
 }
 
 #[inline]

@@ -60,18 +60,7 @@ fn show_about(about: &About) {
     println!("length {}", about.length);
     show_walk(Mode::Plain, &about.plain, about.length);
     show_walk(Mode::Minimal, &about.minimal, about.length);
-    for (name, yes) in [
-        ("is_p2pkh", about.is_p2pkh),
-        ("is_p2sh", about.is_p2sh),
-        ("is_p2wpkh", about.is_p2wpkh),
-        ("is_p2wsh", about.is_p2wsh),
-        ("is_p2tr", about.is_p2tr),
-        ("is_p2a", about.is_p2a),
-        ("is_witness_program", about.is_witness_program),
-        ("is_p2pk", about.is_p2pk),
-        ("is_op_return", about.is_op_return),
-        ("is_push_only", about.is_push_only),
-    ] {
+    for (name, yes) in about.tests() {
         println!("{name} {yes}");
     }
     show_outcome("is_multisig", &about.is_multisig);

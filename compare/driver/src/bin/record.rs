@@ -431,19 +431,8 @@ fn over_255_pushes(steps: &[Step]) -> bool {
 
 /// Document 01's order of kinds, from the crate's answers.
 fn kind(about: &About, is_multisig: bool) -> u64 {
-    let fits = [
-        about.is_p2pkh,
-        about.is_p2sh,
-        about.is_p2wpkh,
-        about.is_p2wsh,
-        about.is_p2tr,
-        about.is_p2a,
-        about.is_witness_program,
-        about.is_p2pk,
-        is_multisig,
-        about.is_op_return,
-        true,
-    ];
+    let tests = about.tests().map(|(_, yes)| yes);
+    let fits = [&tests[..8], &[is_multisig, about.is_op_return, true]].concat();
     fits.iter().position(|fits| *fits).expect("other fits") as u64
 }
 
@@ -463,18 +452,7 @@ fn part(script: &[u8], place: usize, bytes: &Option<Vec<u8>>) -> Answer {
 }
 
 fn templates(sample: &mut Sample, script: &[u8], about: &About, random: &mut Random) {
-    for (entry, yes) in [
-        ("is_p2pkh", about.is_p2pkh),
-        ("is_p2sh", about.is_p2sh),
-        ("is_p2wpkh", about.is_p2wpkh),
-        ("is_p2wsh", about.is_p2wsh),
-        ("is_p2tr", about.is_p2tr),
-        ("is_p2a", about.is_p2a),
-        ("is_witness_program", about.is_witness_program),
-        ("is_p2pk", about.is_p2pk),
-        ("is_op_return", about.is_op_return),
-        ("is_push_only", about.is_push_only),
-    ] {
+    for (entry, yes) in about.tests() {
         sample.ask(entry, 0, 0, yes_or_no(yes));
     }
     let is_multisig = match about.is_multisig {
