@@ -1,20 +1,15 @@
 -- `boundary::build::bb_builder_as_bytes` meets its contract. Assumes nothing.
 use mathlib.Core.Path.{ap, _∙_}
+use borrow.Author.Needs.{needs}
 use Rattle.laws.specs.Said.{answers}
 use Rattle.opcodes.specs.Opcode.{saidCode}
 use Rattle.builder.specs.Lent.{shown}
 use Rattle.boundary.specs.Handed.{one}
 use Rattle.boundary.proofs.Handing.{says-as}
 use Rattle.boundary.proofs.Shown.{shown-length}
-use borrow.Author.Needs.{needs}
 use Rattle.boundary.proofs.build.bb_builder_as_bytes.Statement.{statement}
 use Rattle.boundary.proofs.build.bb_builder_as_bytes.Tie as tie
 
--- src/build.rt:210:17
--- src/build.rt:210:9
--- src/build.rt:211:5
--- src/build.rt:201:1
--- src/build.rt:201:1
 returns : tie.Need-returns
 returns c =
     let a = c .before .before .before .before in

@@ -1,22 +1,16 @@
 -- `boundary::build::bb_builder_new` meets its contract. Assumes nothing.
-use mathlib.Core.Path.{_≡_}
+use mathlib.Core.Path.{_≡_, ap, _∙_}
 use mathlib.Core.List.{[], _∷_}
 use Prim.Native.Nat.{ℕ}
-use Rattle.boundary.specs.Handed.{rememberedAs}
-use mathlib.Core.Path.{ap, _∙_}
-use Rattle.boundary.proofs.Handing.{gives-as}
 use borrow.Author.Needs.{needs}
+use Rattle.boundary.specs.Handed.{rememberedAs}
+use Rattle.boundary.proofs.Handing.{gives-as}
 use Rattle.boundary.proofs.build.bb_builder_new.Statement.{statement}
 use Rattle.boundary.proofs.build.bb_builder_new.Tie as tie
 
 two-same : {a b c d : ℕ} → a ≡ c → b ≡ d → a ∷ (b ∷ []) ≡ c ∷ (d ∷ [])
 two-same e f = cc
 
--- src/build.rt:74:9
--- src/build.rt:76:31
--- src/build.rt:76:5
--- src/build.rt:70:1
--- src/build.rt:70:1
 returns : tie.Need-returns
 returns c =
     let n = c .before .before .before .before in

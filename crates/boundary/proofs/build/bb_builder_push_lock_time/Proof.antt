@@ -1,24 +1,17 @@
 -- `boundary::build::bb_builder_push_lock_time` meets its contract: what the call leaves is handed over. Assumes nothing.
 use mathlib.Core.Path.{ap, _∙_}
+use borrow.Author.Needs.{needs}
 use lib.IntN.{pos}
 use Rattle.builder.specs.Builder.{pushInt}
 use Rattle.builder.specs.Lent.{Outcome}
 use Rattle.boundary.proofs.Handing.{builds-short, builds-as, calls-as, kept, changed}
-use borrow.Author.Needs.{needs}
 use Rattle.boundary.proofs.build.bb_builder_push_lock_time.Statement.{statement}
 use Rattle.boundary.proofs.build.bb_builder_push_lock_time.Tie as tie
 
--- src/build.rt:156:9
 returns : tie.Need-returns
 returns c =
     (builds-short _ _ (c .if1 .taken), kept _ _ (c .if1 .taken))
 
--- src/build.rt:159:9
--- src/build.rt:159:9
--- src/build.rt:158:5
--- src/build.rt:145:1
--- src/build.rt:145:1
--- src/build.rt:145:1
 returns-2 : tie.Need-returns-2
 returns-2 c =
     let d = c .before .before in

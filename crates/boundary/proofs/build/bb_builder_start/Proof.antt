@@ -1,13 +1,9 @@
 -- `boundary::build::bb_builder_start` meets its contract. Assumes nothing.
-use Rattle.boundary.proofs.Handing.{builds-as}
 use borrow.Author.Needs.{needs}
+use Rattle.boundary.proofs.Handing.{builds-as}
 use Rattle.boundary.proofs.build.bb_builder_start.Statement.{statement}
 use Rattle.boundary.proofs.build.bb_builder_start.Tie as tie
 
--- src/build.rt:84:11
--- src/build.rt:84:5
--- src/build.rt:80:1
--- src/build.rt:80:1
 returns : tie.Need-returns
 returns c =
     builds-as _ (c .before .before .built .ensures _) (c .before .before .before .before .start .ensures)

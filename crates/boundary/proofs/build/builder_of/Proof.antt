@@ -5,13 +5,10 @@ use borrow.Author.Needs.{needs}
 use Rattle.boundary.proofs.build.builder_of.Statement.{statement}
 use Rattle.boundary.proofs.build.builder_of.Tie as tie
 
--- src/build.rt:32:34
--- src/build.rt:30:9
 returns : tie.Need-returns
 returns c =
     (refl, rw (lt-ltb _ 256 (c .if1 .taken)) refl)
 
--- src/build.rt:26:1
 returns-2 : tie.Need-returns-2
 returns-2 c =
     (refl, rw (le-ltb _ 256 (c .if1 .left)) refl)

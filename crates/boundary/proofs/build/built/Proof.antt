@@ -1,44 +1,33 @@
 -- `boundary::build::built` meets its contract, case by case. Assumes nothing.
-use lib.Seq.{length-sets}
 use mathlib.Core.Path.{refl, ap, _∙_}
 use native.Mathlib.Omega.{arith}
+use borrow.Author.Needs.{needs}
+use lib.Seq.{length-sets}
 use lib.ListN.{length-set}
 use Rattle.builder.specs.Answer.{saidAnswer}
 use Rattle.boundary.proofs.Handing.{builds-short, builds-done, builds-refused}
-use borrow.Author.Needs.{needs}
 use Rattle.boundary.proofs.build.built.Statement.{statement}
 use Rattle.boundary.proofs.build.built.Tie as tie
 
--- src/build.rt:56:9
 returns : tie.Need-returns
 returns c =
     λ buffer. builds-short _ _ (c .if1 .taken)
 
--- src/build.rt:60:5
--- src/build.rt:62:17
--- src/build.rt:62:5
 slice-write-values-2 : tie.Need-slice-write-values-2
 slice-write-values-2 c =
     simp length-set (omega (arith, c .before .before .if1 .left))
 
--- src/build.rt:64:25
--- src/build.rt:65:25
--- src/build.rt:65:33
--- src/build.rt:52:1
--- src/build.rt:52:1
 returns-2 : tie.Need-returns-2
 returns-2 c =
     let n = c .before .before in
     let k = n .before .before in
     λ buffer. builds-done _ (k .before .before .args .values .now) (k .if1 .left) (ap saidAnswer (c .enum-told .given .1)) (rw (n .number-of .ensures) refl)
 
--- src/build.rt:52:1
 same-length-2 : tie.Need-same-length-2
 same-length-2 c =
     let d = c .before .before in
     simp (d .refusal .ensures .1, length-sets, length-set)
 
--- src/build.rt:52:1
 returns-3 : tie.Need-returns-3
 returns-3 c =
     let d = c .before .before in

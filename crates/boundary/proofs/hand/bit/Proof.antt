@@ -4,12 +4,10 @@ use Rattle.boundary.specs.Handed.{yes}
 use Rattle.boundary.proofs.hand.bit.Statement.{statement}
 use Rattle.boundary.proofs.hand.bit.Tie as tie
 
--- src/hand.rt:106:1
 returns : tie.Need-returns
 returns c =
     sym (ap yes (c .if1 .taken))
 
--- src/hand.rt:106:1
 returns-2 : tie.Need-returns-2
 returns-2 c =
     sym (ap yes (c .if1 .left))

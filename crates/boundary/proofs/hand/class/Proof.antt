@@ -1,46 +1,30 @@
 -- `boundary::hand::class` meets its contract, case by case. Assumes nothing.
-use mathlib.Core.List.{[], _∷_}
-use borrow.Author.Needs.{needs}
 use mathlib.Core.Path.{ap}
+use mathlib.Core.List.{[], _∷_}
 use native.Mathlib.Omega.{arith}
+use borrow.Author.Needs.{needs}
 use Rattle.laws.specs.Said.{answers}
 use Rattle.opcodes.specs.Opcode.{saidClass}
 use Rattle.boundary.specs.Handed.{sortRow}
-use Rattle.boundary.proofs.Front.{front}
 use Rattle.boundary.proofs.Front.{front}
 use Rattle.boundary.proofs.Handing.{says-short, says-row}
 use Rattle.boundary.proofs.hand.class.Statement.{statement}
 use Rattle.boundary.proofs.hand.class.Tie as tie
 
--- src/hand.rt:181:9
 returns : tie.Need-returns
 returns c =
     says-short sortRow _ _ (c .if1 .taken)
 
--- src/hand.rt:184:21
--- src/hand.rt:185:13
--- src/hand.rt:186:25
--- src/hand.rt:186:13
--- src/hand.rt:190:13
--- src/hand.rt:190:13
--- src/hand.rt:194:13
--- src/hand.rt:194:13
--- src/hand.rt:177:1
--- src/hand.rt:177:1
 returns-2 : tie.Need-returns-2
 returns-2 c =
     let k = c .before .before .before .before in
     says-row sortRow _ _ (k .if1 .left) (ap (λ a. answers (saidClass a)) (c .before .before .answer .given .1)) (rw (c .length-bytes .ensures) (front (_ ∷ (_ ∷ [])) (k .before .before .args .values .now) (k .if1 .left)))
 
--- src/hand.rt:177:1
--- src/hand.rt:177:1
 returns-3 : tie.Need-returns-3
 returns-3 c =
     let k = c .before .before in
     says-row sortRow _ _ (k .if1 .left) (ap (λ a. answers (saidClass a)) (c .enum-told .given .1)) (front (_ ∷ []) (k .before .before .args .values .now) (omega (arith, k .if1 .left)))
 
--- src/hand.rt:177:1
--- src/hand.rt:177:1
 returns-4 : tie.Need-returns-4
 returns-4 c =
     let k = c .before .before in

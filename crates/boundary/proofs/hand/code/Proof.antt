@@ -1,8 +1,8 @@
 -- `boundary::hand::code` meets its contract, case by case. Assumes nothing.
-use mathlib.Core.List.{[], _∷_}
-use borrow.Author.Needs.{needs}
 use mathlib.Core.Path.{ap}
+use mathlib.Core.List.{[], _∷_}
 use native.Mathlib.Omega.{arith}
+use borrow.Author.Needs.{needs}
 use Rattle.laws.specs.Said.{answers}
 use Rattle.opcodes.specs.Opcode.{saidCode}
 use Rattle.boundary.specs.Handed.{one, maybe}
@@ -11,26 +11,15 @@ use Rattle.boundary.proofs.Handing.{says-short, says-row}
 use Rattle.boundary.proofs.hand.code.Statement.{statement}
 use Rattle.boundary.proofs.hand.code.Tie as tie
 
--- src/hand.rt:161:9
 returns : tie.Need-returns
 returns c =
     says-short (maybe one) _ _ (c .if1 .taken)
 
--- src/hand.rt:164:18
--- src/hand.rt:165:13
--- src/hand.rt:166:25
--- src/hand.rt:166:13
--- src/hand.rt:170:13
--- src/hand.rt:170:13
--- src/hand.rt:157:1
--- src/hand.rt:157:1
 returns-2 : tie.Need-returns-2
 returns-2 c =
     let k = c .before .before .before in
     says-row (maybe one) _ _ (k .if1 .left) (ap (λ a. answers (saidCode a)) (c .before .answer .given .1)) (front (_ ∷ (_ ∷ [])) (k .before .args .values .now) (k .if1 .left))
 
--- src/hand.rt:157:1
--- src/hand.rt:157:1
 returns-3 : tie.Need-returns-3
 returns-3 c =
     let k = c .before .before in

@@ -1,8 +1,8 @@
 -- `boundary::hand::count` meets its contract, case by case. Assumes nothing.
+use mathlib.Core.Path.{ap}
 use mathlib.Core.List.{[], _∷_}
 use native.Mathlib.Omega.{arith}
 use borrow.Author.Needs.{needs}
-use mathlib.Core.Path.{ap}
 use Rattle.refusal.specs.Answer.{saidCount}
 use Rattle.boundary.specs.Handed.{one}
 use Rattle.boundary.proofs.Front.{front}
@@ -10,24 +10,15 @@ use Rattle.boundary.proofs.Handing.{says-short, says-row, says-refused}
 use Rattle.boundary.proofs.hand.count.Statement.{statement}
 use Rattle.boundary.proofs.hand.count.Tie as tie
 
--- src/hand.rt:78:9
 returns : tie.Need-returns
 returns c =
     says-short one _ _ (c .if1 .taken)
 
--- src/hand.rt:81:24
--- src/hand.rt:82:13
--- src/hand.rt:85:26
--- src/hand.rt:85:34
--- src/hand.rt:74:1
--- src/hand.rt:74:1
 returns-2 : tie.Need-returns-2
 returns-2 c =
     let k = c .before .before .before in
     says-row one _ _ (k .if1 .left) (ap saidCount (c .before .answer .given .1)) (front (_ ∷ []) (k .before .before .args .values .now) (k .if1 .left))
 
--- src/hand.rt:74:1
--- src/hand.rt:74:1
 returns-3 : tie.Need-returns-3
 returns-3 c =
     let d = c .before .before in

@@ -1,8 +1,8 @@
 -- `boundary::hand::dust` meets its contract, case by case. Assumes nothing.
+use mathlib.Core.Path.{ap}
 use mathlib.Core.List.{[], _∷_}
 use native.Mathlib.Omega.{arith}
 use borrow.Author.Needs.{needs}
-use mathlib.Core.Path.{ap}
 use Rattle.counts.specs.Answer.{saidDust}
 use Rattle.boundary.specs.Handed.{one}
 use Rattle.boundary.proofs.Front.{front}
@@ -10,24 +10,15 @@ use Rattle.boundary.proofs.Handing.{says-short, says-row, says-refused}
 use Rattle.boundary.proofs.hand.dust.Statement.{statement}
 use Rattle.boundary.proofs.hand.dust.Tie as tie
 
--- src/hand.rt:94:9
 returns : tie.Need-returns
 returns c =
     says-short one _ _ (c .if1 .taken)
 
--- src/hand.rt:97:23
--- src/hand.rt:98:13
--- src/hand.rt:101:23
--- src/hand.rt:101:31
--- src/hand.rt:90:1
--- src/hand.rt:90:1
 returns-2 : tie.Need-returns-2
 returns-2 c =
     let k = c .before .before .before in
     says-row one _ _ (k .if1 .left) (ap saidDust (c .before .answer .given .1)) (front (_ ∷ []) (k .before .before .args .values .now) (k .if1 .left))
 
--- src/hand.rt:90:1
--- src/hand.rt:90:1
 returns-3 : tie.Need-returns-3
 returns-3 c =
     let d = c .before .before in

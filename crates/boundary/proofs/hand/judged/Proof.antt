@@ -1,35 +1,24 @@
 -- `boundary::hand::judged` meets its contract, case by case. Assumes nothing.
+use mathlib.Core.Path.{ap, sym}
 use mathlib.Core.List.{[], _∷_}
 use native.Mathlib.Omega.{arith}
 use borrow.Author.Needs.{needs}
-use mathlib.Core.Path.{ap}
 use Rattle.refusal.specs.Answer.{saidJudged}
-use mathlib.Core.Path.{sym}
 use Rattle.boundary.specs.Handed.{yes}
 use Rattle.boundary.proofs.Front.{front-row}
 use Rattle.boundary.proofs.Handing.{says-short, says-row, says-refused}
 use Rattle.boundary.proofs.hand.judged.Statement.{statement}
 use Rattle.boundary.proofs.hand.judged.Tie as tie
 
--- src/hand.rt:117:9
 returns : tie.Need-returns
 returns c =
     says-short yes _ _ (c .if1 .taken)
 
--- src/hand.rt:120:24
--- src/hand.rt:121:25
--- src/hand.rt:121:13
--- src/hand.rt:124:25
--- src/hand.rt:124:33
--- src/hand.rt:113:1
--- src/hand.rt:113:1
 returns-2 : tie.Need-returns-2
 returns-2 c =
     let k = c .before .before .before .before in
     says-row yes _ _ (k .if1 .left) (ap saidJudged (c .before .before .answer .given .1)) (front-row (_ ∷ []) (k .before .before .args .values .now) (sym (c .bit .ensures)) (k .if1 .left))
 
--- src/hand.rt:113:1
--- src/hand.rt:113:1
 returns-3 : tie.Need-returns-3
 returns-3 c =
     let d = c .before .before in

@@ -1,35 +1,24 @@
 -- `boundary::hand::kind` meets its contract, case by case. Assumes nothing.
+use mathlib.Core.Path.{ap, sym}
 use mathlib.Core.List.{[], _∷_}
 use native.Mathlib.Omega.{arith}
 use borrow.Author.Needs.{needs}
-use mathlib.Core.Path.{ap}
 use Rattle.templates.specs.Answer.{saidKind}
-use mathlib.Core.Path.{sym}
 use Rattle.boundary.specs.Handed.{kindRow}
 use Rattle.boundary.proofs.Front.{front-row}
 use Rattle.boundary.proofs.Handing.{says-short, says-row, says-refused}
 use Rattle.boundary.proofs.hand.kind.Statement.{statement}
 use Rattle.boundary.proofs.hand.kind.Tie as tie
 
--- src/hand.rt:288:9
 returns : tie.Need-returns
 returns c =
     says-short kindRow _ _ (c .if1 .taken)
 
--- src/hand.rt:291:20
--- src/hand.rt:292:25
--- src/hand.rt:292:13
--- src/hand.rt:295:25
--- src/hand.rt:295:33
--- src/hand.rt:284:1
--- src/hand.rt:284:1
 returns-2 : tie.Need-returns-2
 returns-2 c =
     let k = c .before .before .before .before in
     says-row kindRow _ _ (k .if1 .left) (ap saidKind (c .before .before .answer .given .1)) (front-row (_ ∷ []) (k .before .before .args .values .now) (sym (c .number-of .ensures)) (k .if1 .left))
 
--- src/hand.rt:284:1
--- src/hand.rt:284:1
 returns-3 : tie.Need-returns-3
 returns-3 c =
     let d = c .before .before in

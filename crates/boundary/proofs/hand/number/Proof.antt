@@ -1,7 +1,7 @@
 -- `boundary::hand::number` meets its contract. Assumes nothing.
+use mathlib.Core.Path.{ap}
 use mathlib.Core.List.{[], _∷_}
 use borrow.Author.Needs.{needs}
-use mathlib.Core.Path.{ap}
 use mir.Syntax.{w64}
 use mir.Facts.{toZ-ofZ}
 use Rattle.numbers.specs.Answer.{saidNumber}
@@ -10,24 +10,16 @@ use Rattle.boundary.proofs.Handing.{reads-short, reads-value, reads-ref
 use Rattle.boundary.proofs.hand.number.Statement.{statement}
 use Rattle.boundary.proofs.hand.number.Tie as tie
 
--- src/hand.rt:133:9
 returns : tie.Need-returns
 returns c =
     reads-short _ _ (c .if1 .taken)
 
--- src/hand.rt:136:23
--- src/hand.rt:137:13
--- src/hand.rt:140:25
--- src/hand.rt:140:33
--- src/hand.rt:129:1
--- src/hand.rt:129:1
 returns-2 : tie.Need-returns-2
 returns-2 c =
     let k = c .before .before .before in
     let s = k .before in
     reads-value _ _ (k .if1 .left) (ap saidNumber (c .before .answer .given .1)) (rw (toZ-ofZ {w = w64} (record { sfits = c .known-told .given .0 .1 })) (front (_ ∷ []) (s .args .values .now) (k .if1 .left)))
 
--- src/hand.rt:129:1
 returns-3 : tie.Need-returns-3
 returns-3 c =
     let k = c .before .before .before .before in

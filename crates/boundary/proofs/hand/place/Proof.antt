@@ -1,8 +1,8 @@
 -- `boundary::hand::place` meets its contract, case by case. Assumes nothing.
-use mathlib.Core.List.{[], _∷_}
-use borrow.Author.Needs.{needs}
 use mathlib.Core.Path.{ap}
+use mathlib.Core.List.{[], _∷_}
 use native.Mathlib.Omega.{arith}
+use borrow.Author.Needs.{needs}
 use lib.ListN.{length-set}
 use Rattle.templates.specs.Answer.{saidPlace}
 use Rattle.boundary.specs.Handed.{maybe, twoOf}
@@ -11,38 +11,23 @@ use Rattle.boundary.proofs.Handing.{says-short, says-row, says-refused}
 use Rattle.boundary.proofs.hand.place.Statement.{statement}
 use Rattle.boundary.proofs.hand.place.Tie as tie
 
--- src/hand.rt:247:9
 returns : tie.Need-returns
 returns c =
     says-short (maybe twoOf) _ _ (c .if1 .taken)
 
--- src/hand.rt:250:21
--- src/hand.rt:251:13
--- src/hand.rt:252:13
 slice-write-values-2 : tie.Need-slice-write-values-2
 slice-write-values-2 c = omega (arith, length-set (c .before .before .before .before .before .args .values .now) 0 1, c .before .before .before .if1 .left)
 
--- src/hand.rt:253:13
--- src/hand.rt:257:13
--- src/hand.rt:257:13
--- src/hand.rt:260:24
--- src/hand.rt:260:32
--- src/hand.rt:243:1
--- src/hand.rt:243:1
 returns-2 : tie.Need-returns-2
 returns-2 c =
     let k = c .before .before .before in
     says-row (maybe twoOf) _ _ (k .if1 .left) (ap saidPlace (c .before .answer .given .1)) (front (_ ∷ (_ ∷ (_ ∷ []))) (k .before .before .args .values .now) (k .if1 .left))
 
--- src/hand.rt:243:1
--- src/hand.rt:243:1
 returns-3 : tie.Need-returns-3
 returns-3 c =
     let k = c .before .before in
     says-row (maybe twoOf) _ _ (k .if1 .left) (ap saidPlace (c .enum-told .given .1)) (front (_ ∷ []) (k .before .before .args .values .now) (omega (arith, k .if1 .left)))
 
--- src/hand.rt:243:1
--- src/hand.rt:243:1
 returns-4 : tie.Need-returns-4
 returns-4 c =
     let d = c .before .before in

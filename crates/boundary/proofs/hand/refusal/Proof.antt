@@ -1,18 +1,11 @@
 -- `boundary::hand::refusal` meets its contract: a value is stored where there is one. Assumes nothing.
 use mathlib.Core.Path.{sym, ap, _∙_}
-use lib.Seq.{sets}
 use borrow.Author.Needs.{needs}
+use lib.Seq.{sets}
 use Rattle.boundary.specs.Steps.{saidValue}
 use Rattle.boundary.proofs.hand.refusal.Statement.{statement}
 use Rattle.boundary.proofs.hand.refusal.Tie as tie
 
--- src/hand.rt:63:9
--- src/hand.rt:64:9
--- src/hand.rt:66:19
--- src/hand.rt:67:13
--- src/hand.rt:67:13
--- src/hand.rt:70:27
--- src/hand.rt:59:1
 returns : tie.Need-returns
 returns c =
     let s = c .before .before .before .before .before .before in (

@@ -6,15 +6,10 @@ use Rattle.boundary.proofs.Handing.{gives-short, gives-row}
 use Rattle.boundary.proofs.hand.two.Statement.{statement}
 use Rattle.boundary.proofs.hand.two.Tie as tie
 
--- src/hand.rt:149:9
 returns : tie.Need-returns
 returns c =
     gives-short _ _ (c .if1 .taken)
 
--- src/hand.rt:151:5
--- src/hand.rt:152:5
--- src/hand.rt:145:1
--- src/hand.rt:145:1
 returns-2 : tie.Need-returns-2
 returns-2 c =
     gives-row _ _ (c .if1 .left) (front (_ ∷ (_ ∷ [])) (c .before .args .values .now) (c .if1 .left))

@@ -5,41 +5,15 @@ use Rattle.refusal.specs.Refusal.{valuesOf}
 use Rattle.boundary.proofs.hand.value_of.Statement.{statement}
 use Rattle.boundary.proofs.hand.value_of.Tie as tie
 
--- src/hand.rt:41:29
--- src/hand.rt:42:29
--- src/hand.rt:43:27
--- src/hand.rt:44:35
--- src/hand.rt:45:38
--- src/hand.rt:46:38
--- src/hand.rt:47:25
--- src/hand.rt:48:31
--- src/hand.rt:49:33
--- src/hand.rt:50:35
--- src/hand.rt:51:37
--- src/hand.rt:52:32
--- src/hand.rt:53:32
--- src/hand.rt:37:1
--- src/hand.rt:37:1
 returns-2 : tie.Need-returns-2
 returns-2 c = sym (ap valuesOf (c .before .why .given .1))
 
--- src/hand.rt:37:1
 returns-3 : tie.Need-returns-3
 returns-3 c = sym (ap valuesOf (c .before .why2 .given .1))
 
--- src/hand.rt:37:1
--- src/hand.rt:37:1
--- src/hand.rt:37:1
--- src/hand.rt:37:1
 returns-7 : tie.Need-returns-7
 returns-7 c = sym (ap valuesOf (c .before .why3 .given .1))
 
--- src/hand.rt:37:1
--- src/hand.rt:37:1
--- src/hand.rt:37:1
--- src/hand.rt:37:1
--- src/hand.rt:37:1
--- src/hand.rt:37:1
 pub value-of-spec : {M : Type 1} → statement M
 value-of-spec =
     tie.close

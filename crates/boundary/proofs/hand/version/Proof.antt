@@ -1,8 +1,8 @@
 -- `boundary::hand::version` meets its contract, case by case. Assumes nothing.
-use mathlib.Core.List.{[], _∷_}
-use borrow.Author.Needs.{needs}
 use mathlib.Core.Path.{ap}
+use mathlib.Core.List.{[], _∷_}
 use native.Mathlib.Omega.{arith}
+use borrow.Author.Needs.{needs}
 use Rattle.templates.specs.Answer.{saidVersion}
 use Rattle.boundary.specs.Handed.{one, maybe}
 use Rattle.boundary.proofs.Front.{front}
@@ -10,35 +10,20 @@ use Rattle.boundary.proofs.Handing.{says-short, says-row, says-refused}
 use Rattle.boundary.proofs.hand.version.Statement.{statement}
 use Rattle.boundary.proofs.hand.version.Tie as tie
 
--- src/hand.rt:205:9
 returns : tie.Need-returns
 returns c =
     says-short (maybe one) _ _ (c .if1 .taken)
 
--- src/hand.rt:208:21
--- src/hand.rt:209:13
--- src/hand.rt:210:25
--- src/hand.rt:210:13
--- src/hand.rt:214:13
--- src/hand.rt:214:13
--- src/hand.rt:217:26
--- src/hand.rt:217:34
--- src/hand.rt:201:1
--- src/hand.rt:201:1
 returns-2 : tie.Need-returns-2
 returns-2 c =
     let k = c .before .before .before in
     says-row (maybe one) _ _ (k .if1 .left) (ap saidVersion (c .before .answer .given .1)) (front (_ ∷ (_ ∷ [])) (k .before .before .args .values .now) (k .if1 .left))
 
--- src/hand.rt:201:1
--- src/hand.rt:201:1
 returns-3 : tie.Need-returns-3
 returns-3 c =
     let k = c .before .before in
     says-row (maybe one) _ _ (k .if1 .left) (ap saidVersion (c .enum-told .given .1)) (front (_ ∷ []) (k .before .before .args .values .now) (omega (arith, k .if1 .left)))
 
--- src/hand.rt:201:1
--- src/hand.rt:201:1
 returns-4 : tie.Need-returns-4
 returns-4 c =
     let d = c .before .before in

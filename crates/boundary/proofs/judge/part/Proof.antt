@@ -1,8 +1,8 @@
 -- `boundary::judge::part` meets its contract, case by case. Assumes nothing.
-use borrow.Author.Needs.{needs}
 use mathlib.Core.Path.{sym, ap}
 use mathlib.Core.List.{List, [], _∷_}
 use Prim.Native.Nat.{ℕ}
+use borrow.Author.Needs.{needs}
 use Rattle.templates.specs.Says.{startOf, lenOf}
 use Rattle.templates.specs.Answer.{saidPlace}
 use Rattle.templates.specs.declared.Place.{Place}
@@ -13,26 +13,14 @@ use Rattle.boundary.proofs.judge.part.Tie as tie
 abbrev row : Place → List ℕ
 row p = startOf (saidPlace p) ∷ (lenOf (saidPlace p) ∷ [])
 
--- src/judge.rt:131:21
--- src/judge.rt:131:37
--- src/judge.rt:132:43
--- src/judge.rt:132:27
--- src/judge.rt:133:46
--- src/judge.rt:133:30
--- src/judge.rt:127:1
--- src/judge.rt:127:1
 returns : tie.Need-returns
 returns c =
     gives-as 2 _ (c .before .before .two .ensures) (sym (ap row (c .before .before .before .before .before .place .given .1)))
 
--- src/judge.rt:127:1
--- src/judge.rt:127:1
 returns-2 : tie.Need-returns-2
 returns-2 c =
     gives-as 2 _ (c .before .before .two2 .ensures) (sym (ap row (c .before .before .before .before .enum-told .given .1)))
 
--- src/judge.rt:127:1
--- src/judge.rt:127:1
 returns-3 : tie.Need-returns-3
 returns-3 c =
     gives-as 2 _ (c .before .before .two3 .ensures) (sym (ap row (c .before .before .before .before .enum-told2 .given .1)))

@@ -1,31 +1,21 @@
 -- `boundary::steps::bb_advance` meets its contract: the step of the place that the slice holds. Assumes nothing.
 use mathlib.Core.Path.{ap, _∙_}
+use borrow.Author.Needs.{needs}
 use lib.ListN.{getD, set}
 use Rattle.walk.specs.Walk.{walkSays, nextAt}
 use Rattle.boundary.proofs.Handing.{steps-as}
 use Rattle.boundary.proofs.Advancing.{no-cursor, no-values, advanced}
-use borrow.Author.Needs.{needs}
 use Rattle.boundary.proofs.steps.bb_advance.Statement.{statement}
 use Rattle.boundary.proofs.steps.bb_advance.Tie as tie
 
--- src/steps.rt:146:9
 returns : tie.Need-returns
 returns c =
     no-cursor _ _ _ _ (c .if1 .taken)
 
--- src/steps.rt:149:9
 returns-2 : tie.Need-returns-2
 returns-2 c =
     no-values _ _ _ _ (c .before .if1 .left) (c .if2 .taken)
 
--- src/steps.rt:151:14
--- src/steps.rt:152:46
--- src/steps.rt:152:9
--- src/steps.rt:154:5
--- src/steps.rt:155:5
--- src/steps.rt:136:1
--- src/steps.rt:136:1
--- src/steps.rt:136:1
 returns-3 : tie.Need-returns-3
 returns-3 c =
     let d = c .before .before in

@@ -1,18 +1,13 @@
 -- `boundary::steps::bb_body` meets its contract. Assumes nothing.
 use mathlib.Core.Path.{ap, _∙_}
 use mathlib.Core.List.{[], _∷_}
+use borrow.Author.Needs.{needs}
 use Rattle.walk.specs.Walk.{walkSays}
 use Rattle.walk.specs.Part.{bodyPlace, bodyLen}
 use Rattle.boundary.proofs.Handing.{gives-as}
-use borrow.Author.Needs.{needs}
 use Rattle.boundary.proofs.steps.bb_body.Statement.{statement}
 use Rattle.boundary.proofs.steps.bb_body.Tie as tie
 
--- src/steps.rt:130:46
--- src/steps.rt:130:9
--- src/steps.rt:132:5
--- src/steps.rt:126:1
--- src/steps.rt:126:1
 returns : tie.Need-returns
 returns c =
     let n = c .before .before .before .before in

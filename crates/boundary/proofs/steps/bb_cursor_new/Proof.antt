@@ -1,16 +1,12 @@
 -- `boundary::steps::bb_cursor_new` meets its contract. Assumes nothing.
 use mathlib.Core.Path.{ap}
+use borrow.Author.Needs.{needs}
 use Rattle.laws.specs.Said.{answers}
 use Rattle.boundary.specs.Handed.{one}
 use Rattle.boundary.proofs.Handing.{says-as}
-use borrow.Author.Needs.{needs}
 use Rattle.boundary.proofs.steps.bb_cursor_new.Statement.{statement}
 use Rattle.boundary.proofs.steps.bb_cursor_new.Tie as tie
 
--- src/steps.rt:96:32
--- src/steps.rt:96:5
--- src/steps.rt:92:1
--- src/steps.rt:92:1
 returns : tie.Need-returns
 returns c =
     says-as 1 one _ (c .before .before .count .ensures) (ap answers (c .before .before .before .before .new .ensures))

@@ -1,5 +1,5 @@
 -- `boundary::steps::bb_next` meets its contract: an instruction that has a size stands whole; for all else the walk's own step answers. Assumes nothing.
-use mathlib.Core.Path.{_≡_, refl, sym, ap, _∙_}
+use mathlib.Core.Path.{_≡_, ap, _∙_}
 use mathlib.Core.Bool.{Bool}
 use mathlib.Core.List.{List, _∷_}
 use Prim.Native.Nat.{ℕ, _+_, _-_, _≤_, _<_}
@@ -94,15 +94,5 @@ returns-3 c =
 pub bb-next-spec : {M : Type 1} → statement M
 bb-next-spec =
     tie.close
-    (tie.spec
-    returns
-    (λ c κs. search needs)
-    (λ c κs. search needs)
-    (λ c κs. search needs)
-    (λ c κs. search needs)
-    (λ c. search needs)
-    returns-2
-    shared-slice-read-whole
-    whole-requires
-    (λ c. search needs)
-    returns-3)
+    (tie.spec returns (λ c κs. search needs) (λ c κs. search needs) (λ c κs. search needs) (λ c κs. search needs) (λ c. search needs) returns-2
+    shared-slice-read-whole whole-requires (λ c. search needs) returns-3)

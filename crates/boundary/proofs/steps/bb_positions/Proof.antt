@@ -1,25 +1,18 @@
 -- `boundary::steps::bb_positions` meets its contract: what the entry says is handed over, and the table stays as it left it. Assumes nothing.
 use mathlib.Core.Path.{ap, _∙_}
+use borrow.Author.Needs.{needs}
 use lib.ListN.{length}
 use Rattle.laws.specs.Buffer.{after}
 use Rattle.walk.specs.Places.{placesOf, positionsSay}
 use Rattle.boundary.specs.Handed.{one}
 use Rattle.boundary.proofs.Handing.{says-short, says-as, kept, changed}
-use borrow.Author.Needs.{needs}
 use Rattle.boundary.proofs.steps.bb_positions.Statement.{statement}
 use Rattle.boundary.proofs.steps.bb_positions.Tie as tie
 
--- src/steps.rt:169:9
 returns : tie.Need-returns
 returns c =
     (says-short one _ _ (c .if1 .taken), kept _ _ (c .if1 .taken))
 
--- src/steps.rt:171:41
--- src/steps.rt:171:17
--- src/steps.rt:171:5
--- src/steps.rt:159:1
--- src/steps.rt:159:1
--- src/steps.rt:159:1
 returns-2 : tie.Need-returns-2
 returns-2 c =
     let d = c .before .before in

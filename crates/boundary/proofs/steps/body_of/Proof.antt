@@ -2,45 +2,29 @@
 use mathlib.Core.Path.{sym, ap}
 use mathlib.Core.List.{List, [], _∷_}
 use Prim.Native.Nat.{ℕ}
+use borrow.Author.Needs.{needs}
 use Rattle.walk.specs.Part.{bodyPlace, bodyLen}
 use Rattle.walk.specs.Answer.{saidFound}
 use Rattle.walk.specs.declared.Found.{Found}
 use Rattle.boundary.proofs.Handing.{gives-as}
-use borrow.Author.Needs.{needs}
 use Rattle.boundary.proofs.steps.body_of.Statement.{statement}
 use Rattle.boundary.proofs.steps.body_of.Tie as tie
 
 abbrev row : Found → List ℕ
 row f = bodyPlace (saidFound f) ∷ (bodyLen (saidFound f) ∷ [])
 
--- src/steps.rt:116:13
--- src/steps.rt:118:14
--- src/steps.rt:119:39
--- src/steps.rt:119:23
--- src/steps.rt:120:64
--- src/steps.rt:120:48
--- src/steps.rt:121:46
--- src/steps.rt:121:30
--- src/steps.rt:109:1
--- src/steps.rt:109:1
 returns : tie.Need-returns
 returns c =
     gives-as 2 _ (c .before .before .two .ensures) (sym (ap row (c .before .before .before .before .before .answer .given .1)))
 
--- src/steps.rt:109:1
--- src/steps.rt:109:1
 returns-2 : tie.Need-returns-2
 returns-2 c =
     gives-as 2 _ (c .before .before .two2 .ensures) (sym (ap row (c .before .before .before .before .enum-told .given .1)))
 
--- src/steps.rt:109:1
--- src/steps.rt:109:1
 returns-3 : tie.Need-returns-3
 returns-3 c =
     gives-as 2 _ (c .before .before .two3 .ensures) (sym (ap row (c .before .before .before .before .enum-told2 .given .1)))
 
--- src/steps.rt:109:1
--- src/steps.rt:109:1
 returns-4 : tie.Need-returns-4
 returns-4 c =
     gives-as 2 _ (c .before .before .two4 .ensures) (sym (ap row (c .before .before .before .before .enum-told3 .given .1)))

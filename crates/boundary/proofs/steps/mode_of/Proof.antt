@@ -5,12 +5,10 @@ use borrow.Author.Tests.{eq-eqb, ne-eqb}
 use Rattle.boundary.proofs.steps.mode_of.Statement.{statement}
 use Rattle.boundary.proofs.steps.mode_of.Tie as tie
 
--- src/steps.rt:23:1
 returns : tie.Need-returns
 returns c =
     sym (ap not (eq-eqb _ 0 (c .if1 .taken)))
 
--- src/steps.rt:23:1
 returns-2 : tie.Need-returns-2
 returns-2 c =
     sym (ap not (ne-eqb _ 0 (c .if1 .left)))

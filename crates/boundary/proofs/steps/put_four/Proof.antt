@@ -1,28 +1,22 @@
 -- `boundary::steps::put_four` meets its contract. Assumes nothing.
 use native.Mathlib.Omega.{arith}
-use lib.ListN.{length-set}
 use borrow.Author.Needs.{needs}
+use lib.ListN.{length-set}
 use Rattle.boundary.proofs.steps.put_four.Statement.{statement}
 use Rattle.boundary.proofs.steps.put_four.Tie as tie
 
--- src/steps.rt:38:5
--- src/steps.rt:39:5
 slice-write-values-2 : tie.Need-slice-write-values-2
 slice-write-values-2 c =
     simp length-set (omega (arith, c .pre))
 
--- src/steps.rt:40:5
 slice-write-values-3 : tie.Need-slice-write-values-3
 slice-write-values-3 c =
     simp length-set (omega (arith, c .pre))
 
--- src/steps.rt:41:5
 slice-write-values-4 : tie.Need-slice-write-values-4
 slice-write-values-4 c =
     simp length-set (omega (arith, c .pre))
 
--- src/steps.rt:34:1
--- src/steps.rt:34:1
 pub put-four-spec : {M : Type 1} → statement M
 put-four-spec =
     tie.close

@@ -1,57 +1,37 @@
 -- `boundary::steps::step` meets its contract, case by case. Assumes nothing.
-use lib.Seq.{length-sets}
 use mathlib.Core.Path.{refl, ap, _∙_}
 use native.Mathlib.Omega.{arith}
+use borrow.Author.Needs.{needs}
+use lib.Seq.{length-sets}
 use lib.ListN.{length-set}
 use Rattle.walk.specs.Answer.{saidFound}
 use Rattle.boundary.proofs.Handing.{steps-short, steps-row, steps-refused}
-use borrow.Author.Needs.{needs}
 use Rattle.boundary.proofs.steps.step.Statement.{statement}
 use Rattle.boundary.proofs.steps.step.Tie as tie
 
--- src/steps.rt:58:9
 returns : tie.Need-returns
 returns c =
     steps-short _ _ _ (c .if1 .taken)
 
--- src/steps.rt:65:13
--- src/steps.rt:65:13
--- src/steps.rt:66:13
 slice-write-values-2 : tie.Need-slice-write-values-2
 slice-write-values-2 c =
     simp length-set (omega (arith, c .before .before .before .if1 .left))
 
--- src/steps.rt:69:25
--- src/steps.rt:70:51
--- src/steps.rt:70:13
--- src/steps.rt:74:13
--- src/steps.rt:79:17
--- src/steps.rt:80:13
--- src/steps.rt:81:13
--- src/steps.rt:84:24
--- src/steps.rt:85:13
--- src/steps.rt:86:13
 refusal-requires : tie.Need-refusal-requires
 refusal-requires c κs =
     simp length-set (omega (arith, c .before .before .before .before .before .if1 .left))
 
--- src/steps.rt:54:1
--- src/steps.rt:54:1
 returns-2 : tie.Need-returns-2
 returns-2 c =
     let k = c .before .before .before in
     steps-row _ _ (k .before .before .args .values .now) _ (k .if1 .left) (ap saidFound (c .enum-told .given .1)) refl
 
--- src/steps.rt:54:1
--- src/steps.rt:54:1
 returns-3 : tie.Need-returns-3
 returns-3 c =
     let f = c .before .before .before .before .before in
     let k = f .before .before .before in
     steps-row _ _ (k .before .before .args .values .now) _ (k .if1 .left) (ap saidFound (f .found .given .1)) (c .before .before .put-four .ensures)
 
--- src/steps.rt:54:1
--- src/steps.rt:54:1
 returns-4 : tie.Need-returns-4
 returns-4 c =
     let d = c .before .before in
@@ -61,13 +41,11 @@ returns-4 c =
     let k = f .before .before .before in
     steps-row _ _ (k .before .before .args .values .now) _ (k .if1 .left) (ap saidFound (f .found2 .given .1)) (d .put-two .ensures ∙ rw (e .put-four2 .ensures, b .length-bytes .ensures) refl)
 
--- src/steps.rt:54:1
 same-length-4 : tie.Need-same-length-4
 same-length-4 c =
     let d = c .before .before in
     simp (d .refusal .ensures .1, length-sets, length-set)
 
--- src/steps.rt:54:1
 returns-5 : tie.Need-returns-5
 returns-5 c =
     let d = c .before .before in

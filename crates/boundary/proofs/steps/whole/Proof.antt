@@ -2,7 +2,7 @@
 use mathlib.Core.Path.{_≡_, refl, sym, ap, _∙_}
 use native.Mathlib.Omega.{arith}
 use borrow.Author.Needs.{needs}
-use Rattle.opcodes.specs.Opcode.{saidForm, saidClass, sortOf, lengthBytes}
+use Rattle.opcodes.specs.Opcode.{saidForm, saidClass, sortOf}
 use Rattle.opcodes.specs.Opcode as sort
 use Rattle.walk.specs.Steps.{headOf}
 use Rattle.boundary.proofs.steps.whole.Statement.{statement}
@@ -54,24 +54,6 @@ returns-3 c =
 pub whole-spec : {M : Type 1} → statement M
 whole-spec =
     tie.close
-    (tie.spec
-    (λ c. search needs)
-    (λ c κs. search needs)
-    (λ c. search needs)
-    (λ c κs. search needs)
-    (λ c κs. search needs)
-    (λ c. search needs)
-    add-put-two-2
-    add-put-two-3
-    sub-put-two
-    (λ c κs. search needs)
-    (λ c. search needs)
-    (λ c κs. search needs)
-    (λ c. search needs)
-    (λ c κs. search needs)
-    (λ c. search needs)
-    returns
-    (λ c. search needs)
-    returns-2
-    (λ c. search needs)
-    returns-3)
+    (tie.spec (λ c. search needs) (λ c κs. search needs) (λ c. search needs) (λ c κs. search needs) (λ c κs. search needs) (λ c. search needs)
+    add-put-two-2 add-put-two-3 sub-put-two (λ c κs. search needs) (λ c. search needs) (λ c κs. search needs) (λ c. search needs)
+    (λ c κs. search needs) (λ c. search needs) returns (λ c. search needs) returns-2 (λ c. search needs) returns-3)

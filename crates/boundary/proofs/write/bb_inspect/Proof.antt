@@ -1,20 +1,14 @@
 -- `boundary::write::bb_inspect` meets its contract: what the entry says is handed over, and what it wrote stays. Assumes nothing.
+use borrow.Author.Needs.{needs}
 use Rattle.boundary.specs.Handed.{one}
 use Rattle.boundary.proofs.Handing.{says-short, says-as, kept, changed}
-use borrow.Author.Needs.{needs}
 use Rattle.boundary.proofs.write.bb_inspect.Statement.{statement}
 use Rattle.boundary.proofs.write.bb_inspect.Tie as tie
 
--- src/write.rt:55:9
 returns : tie.Need-returns
 returns c =
     (says-short one _ _ (c .if1 .taken), kept _ _ (c .if1 .taken))
 
--- src/write.rt:57:17
--- src/write.rt:57:5
--- src/write.rt:50:1
--- src/write.rt:50:1
--- src/write.rt:50:1
 returns-2 : tie.Need-returns-2
 returns-2 c =
     let d = c .before .before in

@@ -1,20 +1,14 @@
 -- `boundary::write::bb_p2wpkh_script_code` meets its contract: what the entry says is handed over, and what it wrote stays. Assumes nothing.
+use borrow.Author.Needs.{needs}
 use Rattle.boundary.specs.Handed.{one, maybe}
 use Rattle.boundary.proofs.Handing.{says-short, says-as, kept, changed}
-use borrow.Author.Needs.{needs}
 use Rattle.boundary.proofs.write.bb_p2wpkh_script_code.Statement.{statement}
 use Rattle.boundary.proofs.write.bb_p2wpkh_script_code.Tie as tie
 
--- src/write.rt:44:9
 returns : tie.Need-returns
 returns c =
     (says-short (maybe one) _ _ (c .if1 .taken), kept _ _ (c .if1 .taken))
 
--- src/write.rt:46:17
--- src/write.rt:46:5
--- src/write.rt:39:1
--- src/write.rt:39:1
--- src/write.rt:39:1
 returns-2 : tie.Need-returns-2
 returns-2 c =
     let d = c .before .before in

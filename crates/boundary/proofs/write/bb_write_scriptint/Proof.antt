@@ -1,26 +1,20 @@
 -- `boundary::write::bb_write_scriptint` meets its contract: what the entry says is handed over, and what it wrote stays. Assumes nothing.
-use lib.ListN.{length}
 use mathlib.Core.Path.{ap, _∙_}
+use borrow.Author.Needs.{needs}
+use lib.ListN.{length}
 use mir.Facts.{toZ-ofZ}
 use Rattle.laws.specs.Buffer.{after}
 use Rattle.numbers.specs.ScriptNum.{serialize}
 use Rattle.numbers.specs.Answer.{writeSays}
 use Rattle.boundary.specs.Handed.{one}
 use Rattle.boundary.proofs.Handing.{says-short, says-as, kept, changed}
-use borrow.Author.Needs.{needs}
 use Rattle.boundary.proofs.write.bb_write_scriptint.Statement.{statement}
 use Rattle.boundary.proofs.write.bb_write_scriptint.Tie as tie
 
--- src/write.rt:33:9
 returns : tie.Need-returns
 returns c =
     (says-short one _ _ (c .if1 .taken), kept _ _ (c .if1 .taken))
 
--- src/write.rt:35:17
--- src/write.rt:35:5
--- src/write.rt:28:1
--- src/write.rt:28:1
--- src/write.rt:28:1
 returns-2 : tie.Need-returns-2
 returns-2 c =
     let d = c .before .before in
