@@ -1,5 +1,4 @@
 -- The convention by which an answer goes over to C: a number, and values at the front of a lent slice. Assumes nothing.
-use mathlib.Core.Path.{_≡_}
 use mathlib.Core.Bool.{Bool, not, _||_}
 use mathlib.Core.List.{List, [], _∷_, _++_}
 use mathlib.Core.Option.{Option, none, some}

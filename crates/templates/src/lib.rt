@@ -9,12 +9,13 @@ use opcodes::OP_EQUALVERIFY;
 use refusal::MAX_SCRIPT;
 use refusal::Refusal;
 ghost use mathlib.Core.Path.{_≡_};
+ghost use mathlib.Core.Bool.{false};
 ghost use mathlib.Core.List.{_++_};
 ghost use Prim.Native.Nat.{_+_, _≤_};
 ghost use lib.ListN.{length, drop};
 ghost use Rattle.laws.specs.Buffer.{after};
 ghost use Rattle.walk.specs.Part.{Part};
-ghost use Rattle.templates.specs.Fixed.{witnessVersion, codeOf, scriptCode};
+ghost use Rattle.templates.specs.Fixed.{isPayToPubkeyHash, witnessVersion, codeOf, scriptCode};
 ghost use Rattle.templates.specs.Walked.{redeemScript};
 ghost use Rattle.templates.specs.Kind.{kindOf};
 ghost use Rattle.templates.specs.Says.{judges, pubkeyOf, startOf, lenOf, codeSays};
@@ -186,13 +187,12 @@ pub fn p2wpkh_script_code(script: &[u8], out: &mut [u8]) -> Coded
     Coded::Nothing
 }
 
-// The first kind that fits. Tests of a few bytes come before the one walk, which leaves at the first byte unless that is a number opcode.
-fn template_of(s: &[u8]) -> Template
+// The first kind that fits a script that pays to no hash of a public key. Tests of a few bytes come before the one walk, which leaves at the first
+// byte unless that is a number opcode.
+fn later_template(s: &[u8]) -> Template
+    requires { ⌜ isPayToPubkeyHash (now s) ≡ false ⌝ }
     ensures { λ r. ⌜ saidTemplate r ≡ kindOf (now (s .entry)) ⌝ }
 {
-    if fixed::p2pkh(s) {
-        return Template::P2pkh;
-    }
     if fixed::p2sh(s) {
         return Template::P2sh;
     }
@@ -221,6 +221,16 @@ fn template_of(s: &[u8]) -> Template
         return Template::OpReturn;
     }
     Template::Other
+}
+
+// The first kind that fits. The most frequent one has its test here, where a caller's code can take it in.
+fn template_of(s: &[u8]) -> Template
+    ensures { λ r. ⌜ saidTemplate r ≡ kindOf (now (s .entry)) ⌝ }
+{
+    if fixed::p2pkh(s) {
+        return Template::P2pkh;
+    }
+    later_template(s)
 }
 
 // The kind of a script. Refused with 1 for a script over the limit.
