@@ -1,14 +1,13 @@
 -- A cursor in a lent slice: too short, or moved on. Assumes nothing.
 use mathlib.Core.Path.{_≡_, refl, _∙_}
-use mathlib.Core.Bool.{Bool, _||_}
 use mathlib.Core.List.{List, [], _∷_}
 use Prim.Native.Nat.{ℕ, _≤_, _<_}
 use borrow.Author.Tests.{lt-ltb, le-ltb}
-use lib.ListN.{length, drop, set}
+use lib.ListN.{length, set}
 use Rattle.laws.specs.Said.{Said}
 use Rattle.walk.specs.Walk.{Walked}
 use Rattle.boundary.specs.Handed.{Handed, handed, steps, advances, movedTo}
-use Rattle.boundary.proofs.Front.{front}
+use Rattle.laws.proofs.Stored.{stored-front}
 use Rattle.boundary.proofs.Handing.{steps-short}
 
 module _ (next : ℕ) (said : Said Walked) (cursor old : List ℕ) where
@@ -23,4 +22,4 @@ module _ (next : ℕ) (said : Said Walked) (cursor old : List ℕ) where
   pub advanced : {h : Handed ℕ} {new : List ℕ} → 1 ≤ length cursor → 6 ≤ length old → h ≡ steps next said old → new ≡ set cursor 0 next
       → (h ≡ advances cursor next said old) × (new ≡ movedTo next cursor old)
   unfolding advances movedTo
-  advanced h k e g = rw (le-ltb (length cursor) 1 h, le-ltb (length old) 6 k) (e, g ∙ front (next ∷ []) cursor h)
+  advanced h k e g = rw (le-ltb (length cursor) 1 h, le-ltb (length old) 6 k) (e, g ∙ stored-front (next ∷ []) cursor h)

@@ -31,7 +31,7 @@ use Rattle.boundary.specs.Handed.{
   walkedRow,
   rememberedAs,
 }
-use Rattle.boundary.proofs.Front.{front}
+use Rattle.laws.proofs.Stored.{stored-front}
 
 pub short : {E : Type 0} {least : ℕ} (number : ℕ) (row old : List E) → length old < least → handed 7 old ≡ into least number row old
 short {least = least} number row old h = rw (lt-ltb (length old) least h) refl
@@ -39,6 +39,10 @@ short {least = least} number row old h = rw (lt-ltb (length old) least h) refl
 pub roomy : {E : Type 0} {least number r : ℕ} {row v new : List E} (old : List E) → least ≤ length old → number ≡ r → row ≡ v
     → new ≡ v ++ drop (length v) old → handed r new ≡ into least number row old
 roomy {least = least} old h e f g = rw (le-ltb (length old) least h, e, f, g) refl
+
+-- values that are stored at the front, by the row that they are
+pub front-row : {A : Type 0} {v : List A} (vs l : List A) → v ≡ vs → length vs ≤ length l → sets l 0 vs ≡ v ++ drop (length v) l
+front-row vs l e h = rw e (stored-front vs l h)
 
 -- a refusal has one value at most
 pub few : (why : Refusal) → length (refusals.valuesOf why) ≤ 1
@@ -71,7 +75,7 @@ module _ {A : Type 0} {least : ℕ} (row : A → List ℕ) (said : Said A) (old 
   unfolding says
   says-refused why h p e g =
       let f : length (refusals.valuesOf why) ≤ length old = omega (arith, few why) in
-      roomy old h (ap numberOf e ∙ sym (g .0)) (ap (valuesOf row) e) (g .1 ∙ front (refusals.valuesOf why) old f)
+      roomy old h (ap numberOf e ∙ sym (g .0)) (ap (valuesOf row) e) (g .1 ∙ stored-front (refusals.valuesOf why) old f)
 
 module _ {least : ℕ} (row old : List ℕ) where
   pub gives-short : length old < least → handed 7 old ≡ gives least row old
@@ -123,14 +127,14 @@ module _ (next : ℕ) (said : Said Walked) (old : List ℕ) where
   unfolding steps
   steps-row w h e g =
       let f : length (next ∷ walkedRow w) ≤ length old = omega (arith, brief w) in
-      roomy old h (ap numberOf e) (ap (λ s. next ∷ valuesOf walkedRow s) e) (g ∙ front (next ∷ walkedRow w) old f)
+      roomy old h (ap numberOf e) (ap (λ s. next ∷ valuesOf walkedRow s) e) (g ∙ stored-front (next ∷ walkedRow w) old f)
 
   pub steps-refused : (why : Refusal) {r : ℕ} {new : List ℕ} → 6 ≤ length old → said ≡ saidRefusal why
       → (r ≡ refusals.numberOf why) × (new ≡ sets old 0 (next ∷ refusals.valuesOf why)) → handed r new ≡ steps next said old
   unfolding steps
   steps-refused why h e g =
       let f : length (next ∷ refusals.valuesOf why) ≤ length old = omega (arith, few why) in
-      roomy old h (ap numberOf e ∙ sym (g .0)) (ap (λ s. next ∷ valuesOf walkedRow s) e) (g .1 ∙ front (next ∷ refusals.valuesOf why) old f)
+      roomy old h (ap numberOf e ∙ sym (g .0)) (ap (λ s. next ∷ valuesOf walkedRow s) e) (g .1 ∙ stored-front (next ∷ refusals.valuesOf why) old f)
 
 module _ (o : Outcome) (old : List ℕ) where
   abbrev state : List ℕ → List ℕ
@@ -144,14 +148,14 @@ module _ (o : Outcome) (old : List ℕ) where
   unfolding builds
   builds-done h e g =
       let f : length (state []) ≤ length old = omega arith in
-      roomy old h (ap numberOf e) (ap (λ s. state (valuesOf (λ done. []) s)) e) (g ∙ front (state []) old f)
+      roomy old h (ap numberOf e) (ap (λ s. state (valuesOf (λ done. []) s)) e) (g ∙ stored-front (state []) old f)
 
   pub builds-refused : (why : Refusal) {r : ℕ} {new : List ℕ} → 3 ≤ length old → o .said ≡ saidRefusal why
       → (r ≡ refusals.numberOf why) × (new ≡ sets old 0 (state (refusals.valuesOf why))) → handed r new ≡ builds o old
   unfolding builds
   builds-refused why h e g =
       let f : length (state (refusals.valuesOf why)) ≤ length old = omega (arith, few why) in
-      roomy old h (ap numberOf e ∙ sym (g .0)) (ap (λ s. state (valuesOf (λ done. []) s)) e) (g .1 ∙ front (state (refusals.valuesOf why)) old f)
+      roomy old h (ap numberOf e ∙ sym (g .0)) (ap (λ s. state (valuesOf (λ done. []) s)) e) (g .1 ∙ stored-front (state (refusals.valuesOf why)) old f)
 
 pub steps-as : (old : List ℕ) {n m : ℕ} {a b : Said Walked} {h : Handed ℕ} → h ≡ steps n a old → n ≡ m → a ≡ b → h ≡ steps m b old
 steps-as old {n} {m} {a} {b} p d e = p ∙ ap (λ k. steps k a old) d ∙ ap (λ s. steps m s old) e

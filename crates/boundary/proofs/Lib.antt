@@ -1,4 +1,3 @@
-pub mod Front
 pub mod Handing
 pub mod Advancing
 pub mod Shown

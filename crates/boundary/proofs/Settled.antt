@@ -1,6 +1,6 @@
 -- Each entry is settled: two outcomes that its contract permits for one input are equal: the number, the values and what is left in every other
 -- slice that was lent. Assumes nothing.
-use mathlib.Core.Path.{_≡_, refl, ap, sym, _∙_}
+use mathlib.Core.Path.{_≡_, sym, _∙_}
 use mathlib.Core.List.{List}
 use Prim.Native.Nat.{ℕ}
 use denote.Ref.{now}

@@ -9,8 +9,6 @@ use borrow.Author.Tests.{ltb-false}
 use lib.Dec.{ltb}
 use lib.ListN.{length, take, drop}
 use lib.Seq.{length-take-le}
-use Rattle.laws.specs.Choice.{if_then_else_}
-use Rattle.laws.specs.Said.{answers, refuses}
 use Rattle.laws.proofs.Test.{by-test}
 use Rattle.refusal.specs.Refusal.{limit}
 use Rattle.builder.specs.Lent.{notLast, builderSays, shownIf, shown}

@@ -6,6 +6,7 @@ use opcodes::Code;
 use refusal::Counted;
 use refusal::Judged;
 use refusal::Refusal;
+use refusal::Value;
 use templates::Coded;
 use templates::Kinded;
 use templates::Place;
@@ -24,36 +25,9 @@ ghost use Rattle.numbers.specs.Answer.{saidNumber};
 ghost use Rattle.templates.specs.Answer.{saidVersion, saidPlace, saidCoded, saidTemplate, saidKind};
 ghost use Rattle.counts.specs.Answer.{saidDust};
 ghost use Rattle.boundary.specs.Handed.{handed, says, gives, reads, one, yes, maybe, twoOf, sortRow, kindRow};
-ghost use Rattle.boundary.specs.Steps.{saidValue};
 
 // Refusal 7, as a number.
 pub(crate) const NO_ROOM: u32 = 7;
-
-// The value that stands beside a refusal's number, where there is one.
-enum Value {
-    Is(u64),
-    Nothing,
-}
-
-fn value_of(why: Refusal) -> Value
-    ensures { λ r. ⌜ saidValue r ≡ refusals.valuesOf why ⌝ }
-{
-    match why {
-        Refusal::TooLong => Value::Nothing,
-        Refusal::NonMinimal(place) => Value::Is(place as u64),
-        Refusal::EarlyEnd(place) => Value::Is(place as u64),
-        Refusal::NumberTooLong => Value::Nothing,
-        Refusal::NumberNotMinimal => Value::Nothing,
-        Refusal::NumberOutOfRange => Value::Nothing,
-        Refusal::NoRoom(needed) => Value::Is(needed as u64),
-        Refusal::BadCursor => Value::Nothing,
-        Refusal::FeeTooLarge => Value::Nothing,
-        Refusal::ProgramLength => Value::Nothing,
-        Refusal::ProgramLengthV0 => Value::Nothing,
-        Refusal::BadVersion => Value::Nothing,
-        Refusal::BadBuilder => Value::Nothing,
-    }
-}
 
 // A refusal: its number, and its value, where it has one, in this entry.
 pub(crate) fn refusal(why: Refusal, values: &mut [u64], at: usize) -> u32
@@ -61,10 +35,10 @@ pub(crate) fn refusal(why: Refusal, values: &mut [u64], at: usize) -> u32
     ensures { λ r. ⌜ (r ≡ refusals.numberOf why) × (now (values .exit) ≡ sets (now (values .entry)) at (refusals.valuesOf why)) ⌝ }
 {
     let number = why.number();
-    let value = value_of(why);
+    let value = why.value();
     match value {
         Value::Is(n) => {
-            values[at] = n;
+            values[at] = n as u64;
             number
         }
         Value::Nothing => number,

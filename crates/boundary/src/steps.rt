@@ -15,9 +15,8 @@ ghost use lib.ListN.{length, getD};
 ghost use Rattle.laws.specs.Said.{answers};
 ghost use Rattle.laws.specs.Buffer.{after};
 ghost use Rattle.refusal.specs.Refusal.{limit};
-ghost use Rattle.opcodes.specs.Opcode.{sortOf};
+ghost use Rattle.opcodes.specs.Opcode.{sortOf, lengthBytesAfter};
 ghost use Rattle.walk.specs.Walk.{walked, walkSays, nextAt};
-ghost use Rattle.walk.specs.Steps.{headOf};
 ghost use Rattle.walk.specs.Part.{bodyPlace, bodyLen};
 ghost use Rattle.walk.specs.Places.{placesOf, positionsSay};
 ghost use Rattle.walk.specs.Answer.{isMinimal, saidFound};
@@ -95,8 +94,8 @@ fn step(answer: Stepped, values: &mut [u64]) -> u32
 // The same of an instruction that stands whole at a place: the opcode byte and the size tell the rest. It goes by numbers alone, so that a walk
 // from C costs no more than its stores.
 fn whole(at: usize, size: usize, code: u8, values: &mut [u64]) -> u32
-    requires { ⌜ (6 ≤ length (now values)) × (1 + headOf (sortOf code) ≤ size) × (at + size ≤ limit) ⌝ }
-    ensures { λ r. ⌜ (r ≡ 0) × (now (values .exit) ≡ sets (now (values .entry)) 0 ((at + size) ∷ walkedRow (walked (sortOf code) at code (size - (1 + headOf (sortOf code)))))) ⌝ }
+    requires { ⌜ (6 ≤ length (now values)) × (1 + lengthBytesAfter (sortOf code) ≤ size) × (at + size ≤ limit) ⌝ }
+    ensures { λ r. ⌜ (r ≡ 0) × (now (values .exit) ≡ sets (now (values .entry)) 0 ((at + size) ∷ walkedRow (walked (sortOf code) at code (size - (1 + lengthBytesAfter (sortOf code)))))) ⌝ }
 {
     let to = (at + size) as u64;
     let class = opcodes::classify(code);

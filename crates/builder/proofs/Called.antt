@@ -18,7 +18,7 @@ use Rattle.builder.specs.Lent.{notLast, builderSays, builtSays, Outcome,
 use Rattle.builder.specs.Answer.{saidAnswer}
 use Rattle.builder.specs.declared.Answer.{Answer}
 use Rattle.builder.specs.declared.Answer.the-variants.{Done, Refused}
-use Rattle.builder.proofs.Stored.{stored}
+use Rattle.laws.proofs.Stored.{stored}
 
 pub passes : (b : Bool) (number : ℕ) (values : List ℕ) (x : Said (Unit {0})) → (if b then refuses number values else x) ≡ answers tt
     → (b ≡ false) × (x ≡ answers tt)

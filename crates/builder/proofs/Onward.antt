@@ -2,7 +2,7 @@
 -- remembers is the last byte that it leaves. Assumes nothing.
 use mathlib.Core.Path.{_≡_, refl, sym}
 use mathlib.Core.Logic.{⊎-elim}
-use mathlib.Core.Bool.{false, not}
+use mathlib.Core.Bool.{false}
 use mathlib.Core.List.{List, [], _∷_, _++_}
 use mathlib.Core.Option.{Option, none, some}
 use Prim.Native.Nat.{ℕ, zero, suc, _+_, _-_, _≤_, _<_}
@@ -12,7 +12,7 @@ use lib.Dec.{ltb}
 use lib.IntN.{ℤ}
 use lib.ListN.{length, take, drop, getD, length-append, List·getD-append}
 use lib.Seq.{getD-at}
-use Rattle.laws.specs.Said.{Said, answers, refuses}
+use Rattle.laws.specs.Said.{Said, answers, refuses, unless}
 use Rattle.laws.proofs.Test.{by-test, lt-or-le}
 use Rattle.refusal.specs.Refusal.{limit}
 use Rattle.walk.specs.Walk.{Walked, end, opcode, push, walkSays, moved, nextAt}
@@ -21,7 +21,7 @@ use Rattle.walk.proofs.Good.{Good, good}
 use Rattle.numbers.specs.Answer.{isLeast}
 use Rattle.numbers.specs.ScriptNum.{serialize}
 use Rattle.builder.specs.Builder.{State, Call, pushOpcode, pushSlice, intOpcode, pushNumber, pushInt, verifyForm, pushVerified, pushVerify, opcodeIn, unlessRefused, lastOpcode, takesOver}
-use Rattle.builder.specs.Lent.{notLast, builderSays, builtSays, unless, within, leaves, calls}
+use Rattle.builder.specs.Lent.{notLast, builderSays, builtSays, within, leaves, calls}
 use Rattle.builder.proofs.Called.{passes}
 
 -- ---- what a call remembers is its last byte

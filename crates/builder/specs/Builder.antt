@@ -8,6 +8,7 @@ use lib.IntN.{ℤ, pos, negsuc}
 use lib.ListN.{length, take}
 use Rattle.laws.specs.Choice.{if_then_else_}
 use Rattle.laws.specs.Said.{Said, answers, refuses}
+use Rattle.opcodes.specs.Core.{OP-0, OP-1NEGATE, OP-1, OP-VERIFY}
 use Rattle.opcodes.specs.Opcode.{PushForm, direct, pushdata1, pushdata2, pushdata4, verifyOf}
 use Rattle.walk.specs.Instruction.{encode, push}
 use Rattle.walk.specs.Walk.{Walked, end, opcode}
@@ -47,8 +48,8 @@ pushSlice body = appends (encode (push (pushForm (length body)) body)) none
 
 -- 'An integer -1 or 1..16 is its opcode, 0 is byte 0'; `negsuc n` is -(n + 1)
 abbrev pub intOpcode : ℤ → Option ℕ
-intOpcode (pos n) = if eqb n 0 then some 0 else if leb n 16 then some (0x50 + n) else none
-intOpcode (negsuc n) = if eqb n 0 then some 0x4f else none
+intOpcode (pos n) = if eqb n 0 then some OP-0 else if leb n 16 then some (OP-1 - 1 + n) else none
+intOpcode (negsuc n) = if eqb n 0 then some OP-1NEGATE else none
 
 -- '.. others are number pushes', and -2^63 is refusal 6
 abbrev pub pushNumber : Option ℕ → ℤ → Call
@@ -64,9 +65,9 @@ abbrev pub verifyForm : Option ℕ → Option ℕ
 verifyForm none = none
 verifyForm (some code) = verifyOf code
 
--- OP_VERIFY is 0x69; a verify form takes the place of the last byte
+-- a verify form takes the place of the last byte
 abbrev pub pushVerified : Option ℕ → Call
-pushVerified none st = pushOpcode 0x69 st
+pushVerified none st = pushOpcode OP-VERIFY st
 pushVerified (some code) st = pushOpcode code (record { bytes = take (length (st .bytes) - 1) (st .bytes); remembered = st .remembered })
 
 -- 'Verify replaces a remembered opcode that has a verify form; else it appends 0x69'

@@ -6,7 +6,7 @@ use Prim.Native.Nat.{ℕ, _-_}
 use lib.Dec.{ltb, eqb}
 use lib.ListN.{length, take, drop, getD}
 use Rattle.laws.specs.Choice.{if_then_else_}
-use Rattle.laws.specs.Said.{Said, answers, refuses}
+use Rattle.laws.specs.Said.{Said, answers, refuses, unless}
 use Rattle.refusal.specs.Refusal.{limit}
 use Rattle.builder.specs.Builder.{State, Call}
 
@@ -28,11 +28,6 @@ builtSays size room =
     if ltb limit size then refuses 1 []
     else if ltb room size then refuses 7 (size ∷ [])
     else answers tt
-
--- what comes first decides
-abbrev pub unless : {A : Type 0} → Said (Unit {0}) → Said A → Said A
-unless (answers done) said = said
-unless (refuses number values) said = refuses number values
 
 -- what the call builds, where it refuses nothing itself
 abbrev pub within : ℕ → Said State → Said State

@@ -1,36 +1,34 @@
 // Scripts built piece by piece into a lent buffer: opcodes, data, integers, lock times, and verify folded into the last opcode.
-ghost use mathlib.Core.Path.{_≡_};
-ghost use mathlib.Core.List.{_∷_, _++_};
-ghost use mathlib.Core.Option.{none};
-ghost use Prim.Native.Nat.{_+_, _≤_};
-ghost use lib.IntN.{pos};
-ghost use lib.ListN.{length};
-ghost use lib.Seq.{sets};
-ghost use Rattle.refusal.specs.Refusal.{limit, saidRefusal};
-ghost use Rattle.opcodes.specs.Opcode.{saidCode};
-ghost use Rattle.walk.specs.Instruction.{writeLE};
-ghost use Rattle.walk.specs.Part.{Part};
-ghost use Rattle.builder.specs.Builder.{appends, pushOpcode, pushSlice, intOpcode, pushInt, verifyForm, pushVerify, lastOpcode, takesOver};
-ghost use Rattle.builder.specs.Lent.{builderSays, builtSays, calls, shown};
-ghost use Rattle.builder.specs.Answer.{saidAnswer, saidBuilt, callsBy};
+use choose::int_opcode;
+use choose::last_opcode;
+use choose::verify_form;
 use numbers::write_scriptint;
 use opcodes::Code;
 use opcodes::OP_PUSHDATA1;
 use opcodes::OP_PUSHDATA2;
 use opcodes::OP_PUSHDATA4;
-use opcodes::OP_PUSHNUM_1;
+use opcodes::OP_VERIFY;
 use refusal::Counted;
 use refusal::MAX_SCRIPT;
 use refusal::Refusal;
-use walk::Cursor;
-use walk::Found;
-use walk::Mode;
+use store::fits;
+use store::put_push;
+ghost use mathlib.Core.Path.{_≡_};
+ghost use mathlib.Core.List.{_∷_, _++_};
+ghost use mathlib.Core.Option.{none};
+ghost use Prim.Native.Nat.{_≤_};
+ghost use lib.IntN.{pos};
+ghost use lib.ListN.{length};
+ghost use Rattle.refusal.specs.Refusal.{saidRefusal};
+ghost use Rattle.opcodes.specs.Opcode.{saidCode};
+ghost use Rattle.walk.specs.Instruction.{writeLE};
+ghost use Rattle.walk.specs.Part.{Part};
+ghost use Rattle.builder.specs.Builder.{appends, pushOpcode, pushSlice, pushInt, pushVerify, takesOver};
+ghost use Rattle.builder.specs.Lent.{builderSays, calls, shown};
+ghost use Rattle.builder.specs.Answer.{saidAnswer, saidBuilt, callsBy};
 
-const OP_0: u8 = 0x00;
-
-const OP_PUSHNUM_NEG1: u8 = 0x4f;
-
-const OP_VERIFY: u8 = 0x69;
+mod choose;
+mod store;
 
 // The longest body that each length form can state, but for the longest form.
 const MAX_DIRECT: usize = 75;
@@ -55,115 +53,6 @@ pub enum Answer {
 pub struct Built {
     pub answer: Answer,
     pub builder: Builder,
-}
-
-// Refused with 1 where so many used bytes with a head and a body after them exceed the limit, and with 7 where they exceed the room.
-fn fits(used: usize, head: usize, body: usize, room: usize) -> Answer
-    requires { ⌜ (used ≤ limit) × (head ≤ 5) ⌝ }
-    ensures { λ r. ⌜ saidAnswer r ≡ builtSays (used + head + body) room ⌝ }
-{
-    if MAX_SCRIPT < body {
-        return Answer::Refused(Refusal::TooLong);
-    }
-    let size = used + head + body;
-    if MAX_SCRIPT < size {
-        return Answer::Refused(Refusal::TooLong);
-    }
-    if room < size {
-        return Answer::Refused(Refusal::NoRoom(size));
-    }
-    Answer::Done
-}
-
-// Writes the lowest `width` bytes of n from `at` on, the lowest first.
-fn put_le(buffer: &mut [u8], at: usize, width: usize, n: usize)
-    requires { ⌜ at + width ≤ length (now buffer) ⌝ }
-    ensures { λ _. ⌜ now (buffer .exit) ≡ sets (now (buffer .entry)) at (writeLE width n) ⌝ }
-{
-    let mut rest = n;
-    let mut i = 0;
-    while i < width {
-        buffer[at + i] = (rest % 256) as u8;
-        rest = rest / 256;
-        i += 1;
-    }
-}
-
-// Copies body into the buffer from `at` on.
-fn put_bytes(buffer: &mut [u8], at: usize, body: &[u8])
-    requires { ⌜ at + length (now body) ≤ length (now buffer) ⌝ }
-    ensures { λ _. ⌜ now (buffer .exit) ≡ sets (now (buffer .entry)) at (now (body .entry)) ⌝ }
-{
-    let mut i = 0;
-    while i < body.len() {
-        buffer[at + i] = body[i];
-        i += 1;
-    }
-}
-
-// Writes an opcode byte, the lowest `width` bytes of the body's length, and the body, from `at` on.
-fn put_push(buffer: &mut [u8], at: usize, code: u8, width: usize, body: &[u8])
-    requires { ⌜ at + (1 + width + length (now body)) ≤ length (now buffer) ⌝ }
-    ensures { λ _. ⌜ now (buffer .exit) ≡ sets (now (buffer .entry)) at (code ∷ (writeLE width (length (now (body .entry))) ++ now (body .entry))) ⌝ }
-{
-    buffer[at] = code;
-    put_le(buffer, at + 1, width, body.len());
-    put_bytes(buffer, at + 1 + width, body);
-}
-
-// The opcode that pushes n, where there is one: -1 to 16.
-fn int_opcode(n: i64) -> Code
-    ensures { λ r. ⌜ saidCode r ≡ intOpcode n ⌝ }
-{
-    match n {
-        -1 => Code::Is(OP_PUSHNUM_NEG1),
-        0 => Code::Is(OP_0),
-        1..=16 => Code::Is((n as u8) + (OP_PUSHNUM_1 - 1)),
-        _ => Code::Nothing,
-    }
-}
-
-// The opcode that does the same as the remembered one and then verifies, where there is one.
-fn verify_form(remembered: Code) -> Code
-    ensures { λ r. ⌜ saidCode r ≡ verifyForm (saidCode remembered) ⌝ }
-{
-    match remembered {
-        Code::Is(code) => opcodes::opcode_to_verify(code),
-        Code::Nothing => Code::Nothing,
-    }
-}
-
-// The last instruction of a script, if it is an opcode and the plain walk refuses nothing.
-fn last_opcode(script: &[u8]) -> Code
-    ensures { λ r. ⌜ saidCode r ≡ lastOpcode (now (script .entry)) ⌝ }
-{
-    let mut c = Cursor { at: 0 };
-    let mut last = Code::Nothing;
-    loop {
-        let stepped = c.next(script, Mode::Plain);
-        let found = stepped.found;
-        match found {
-            Found::End => {
-                return last;
-            }
-            Found::Opcode { place: _, code } => {
-                last = Code::Is(code);
-                c = stepped.next;
-            }
-            Found::Push {
-                place: _,
-                form: _,
-                body: _,
-                len: _,
-            } => {
-                last = Code::Nothing;
-                c = stepped.next;
-            }
-            Found::Refused(_) => {
-                return Code::Nothing;
-            }
-        }
-    }
 }
 
 impl Builder {

@@ -4,7 +4,7 @@ use mathlib.Core.Bool.{true, false}
 use mathlib.Core.List.{List, [], _∷_, map}
 use Prim.Native.Nat.{ℕ, _-_, _^_}
 use Rattle.laws.specs.Said.{Said, answers, refuses}
-use Rattle.laws.specs.Witness.{isWitnessProgram}
+use Rattle.templates.specs.Fixed.{isWitnessProgram, isOpReturn}
 use Rattle.walk.specs.Script.{readLE, assign, sized, operand, getScriptOp}
 use Rattle.counts.specs.Count.{multisigOps, sigOps, while, getSigOpCount, countSays}
 use Rattle.counts.specs.Dust.{getSizeOfCompactSize, dustSize, feeSays, dustSays, customSays}
@@ -34,14 +34,14 @@ unfolding countSays getSigOpCount while sigOps multisigOps getScriptOp operand s
 counts = refl
 
 pub dust : map dustSays (W1 ∷ p2a ∷ return ∷ []) ≡ answers 471 ∷ answers 240 ∷ answers 0 ∷ []
-unfolding dustSays dustSize getSizeOfCompactSize isWitnessProgram
+unfolding dustSays dustSize getSizeOfCompactSize isWitnessProgram isOpReturn
 dust = refl
 
 -- rates about the largest that are taken: for every script, and for the empty one
 pub largest-rates : map (customSays return) ((2 ^ 62 - 1) ∷ (2 ^ 62) ∷ []) ≡ answers 0 ∷ refuses 9 [] ∷ []
-unfolding customSays feeSays dustSize getSizeOfCompactSize isWitnessProgram
+unfolding customSays feeSays dustSize getSizeOfCompactSize isWitnessProgram isOpReturn
 largest-rates = refl
 
 pub largest-fee : map (customSays W1) (29373796295715846 ∷ 29373796295715847 ∷ []) ≡ answers 18446744073709551 ∷ refuses 9 [] ∷ []
-unfolding customSays feeSays dustSize getSizeOfCompactSize isWitnessProgram
+unfolding customSays feeSays dustSize getSizeOfCompactSize isWitnessProgram isOpReturn
 largest-fee = refl

@@ -19,7 +19,8 @@ use Rattle.walk.proofs.Good.{OpcodeAt, PushAt, good-answer}
 use Rattle.walk.proofs.Minimal.{IsOf}
 use Rattle.walk.proofs.Step.{inside, push-code, opcode-read, push-read}
 use Rattle.counts.proofs.Weight.{counts-none-below}
-use Rattle.counts.specs.Count.{OP-INVALIDOPCODE, sigOps, while, getSigOpCount}
+use Rattle.counts.specs.Count.{sigOps, while, getSigOpCount}
+use Rattle.opcodes.specs.Core.{OP-INVALIDOPCODE}
 
 -- ---- Core's loop
 

@@ -1,41 +1,26 @@
 -- How Bitcoin Core 25.0 counts signature operations: CScript::GetSigOpCount of script/script.cpp. Assumes nothing.
 use mathlib.Core.Bool.{Bool, _&&_, _||_}
-use mathlib.Core.List.{List, []}
-use Prim.Native.Nat.{ℕ, zero, suc, _+_, _-_}
+use mathlib.Core.List.{List}
+use Prim.Native.Nat.{ℕ, zero, suc, _+_}
 use lib.Dec.{ltb, leb, eqb}
 use lib.ListN.{length}
 use Rattle.laws.specs.Choice.{if_then_else_}
-use Rattle.laws.specs.Said.{Said, answers, refuses}
-use Rattle.refusal.specs.Refusal.{limit}
-use Rattle.walk.specs.Script.{OP-0, ScriptOp, fails, reads, getScriptOp}
-
-abbrev pub OP-1 : ℕ
-OP-1 = 0x51
-
-abbrev pub OP-16 : ℕ
-OP-16 = 0x60
-
-abbrev pub OP-CHECKSIG : ℕ
-OP-CHECKSIG = 0xac
-
-abbrev pub OP-CHECKSIGVERIFY : ℕ
-OP-CHECKSIGVERIFY = 0xad
-
-abbrev pub OP-CHECKMULTISIG : ℕ
-OP-CHECKMULTISIG = 0xae
-
-abbrev pub OP-CHECKMULTISIGVERIFY : ℕ
-OP-CHECKMULTISIGVERIFY = 0xaf
-
-abbrev pub OP-INVALIDOPCODE : ℕ
-OP-INVALIDOPCODE = 0xff
+use Rattle.laws.specs.Said.{Said, answers}
+use Rattle.refusal.specs.Refusal.{withinLimit}
+use Rattle.opcodes.specs.Core.{
+  OP-1,
+  OP-16,
+  OP-CHECKSIG,
+  OP-CHECKSIGVERIFY,
+  OP-CHECKMULTISIG,
+  OP-CHECKMULTISIGVERIFY,
+  OP-INVALIDOPCODE,
+  decodeOP-N,
+}
+use Rattle.walk.specs.Script.{ScriptOp, fails, reads, getScriptOp}
 
 abbrev pub MAX-PUBKEYS-PER-MULTISIG : ℕ
 MAX-PUBKEYS-PER-MULTISIG = 20
-
--- CScript::DecodeOP_N of script/script.h
-abbrev pub decodeOP-N : ℕ → ℕ
-decodeOP-N opcode = if eqb opcode OP-0 then 0 else opcode - (OP-1 - 1)
 
 -- if (fAccurate && lastOpcode >= OP_1 && lastOpcode <= OP_16) n += DecodeOP_N(lastOpcode); else n += MAX_PUBKEYS_PER_MULTISIG;
 unfoldable pub multisigOps : (fAccurate : Bool) (lastOpcode : ℕ) → ℕ
@@ -66,4 +51,4 @@ getSigOpCount fAccurate s = while (length s) fAccurate s 0 0 OP-INVALIDOPCODE
 
 -- document 01, 'Counts and dust': refusal 1, else the count
 unfoldable pub countSays : Bool → List ℕ → Said ℕ
-countSays fAccurate s = if ltb limit (length s) then refuses 1 [] else answers (getSigOpCount fAccurate s)
+countSays fAccurate s = withinLimit s (answers (getSigOpCount fAccurate s))

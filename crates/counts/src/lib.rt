@@ -4,32 +4,27 @@ use opcodes::OP_CHECKMULTISIG;
 use opcodes::OP_CHECKMULTISIGVERIFY;
 use opcodes::OP_CHECKSIG;
 use opcodes::OP_CHECKSIGVERIFY;
-use opcodes::OP_PUSHNUM_1;
-use opcodes::OP_PUSHNUM_16;
+use opcodes::OP_INVALIDOPCODE;
 use refusal::Counted;
+use refusal::Judged;
 use refusal::MAX_SCRIPT;
 use refusal::Refusal;
 use walk::Cursor;
 use walk::Found;
 use walk::Mode;
-ghost use mathlib.Core.Bool.{true, false, _&&_, _||_};
+ghost use mathlib.Core.Bool.{Bool, true, false};
 ghost use mathlib.Core.Path.{_≡_};
-ghost use Prim.Native.Nat.{_≤_, _<_};
-ghost use lib.Dec.{leb, eqb};
-ghost use lib.ListN.{length, getD};
-ghost use Rattle.laws.specs.Witness.{isWitnessProgram};
+ghost use Prim.Native.Nat.{_≤_};
+ghost use lib.ListN.{length};
+ghost use Rattle.laws.specs.Said.{answers};
 ghost use Rattle.refusal.specs.Refusal.{limit};
-ghost use Rattle.refusal.specs.Answer.{saidCount};
+ghost use Rattle.refusal.specs.Answer.{saidCount, saidJudged};
 ghost use Rattle.counts.specs.Answer.{saidDust};
 ghost use Rattle.counts.specs.Dust.{getSizeOfCompactSize, dustSize, feeSays, dustSays, customSays};
 ghost use Rattle.counts.specs.Count.{multisigOps, sigOps, countSays};
 
 // What a multisig counts where the number of its keys is not known.
 const MAX_PUBKEYS_PER_MULTISIG: usize = 20;
-
-const OP_INVALIDOPCODE: u8 = 0xff;
-
-const OP_RETURN: u8 = 0x6a;
 
 // Bytes of an output besides its script, and of the input that spends it: outpoint, lengths, signature and key, sequence, amount.
 const SPEND_SIZE: usize = 32 + 4 + 1 + 107 + 4 + 8;
@@ -127,49 +122,14 @@ pub enum Dust {
     Refused(Refusal),
 }
 
-fn wide(x: u8) -> usize
-    ensures { λ r. ⌜ (r ≡ x) × (r < 256) ⌝ }
+// Whether a template's answer is yes.
+fn holds(answer: Judged) -> bool
+    ensures { λ r. ⌜ ((b : Bool) → saidJudged answer ≡ answers b → r ≡ b) ⌝ }
 {
-    x as usize
-}
-
-// Whether an opcode is a witness version: 0, or a number opcode.
-fn is_version(code: u8) -> bool
-    ensures { λ r. ⌜ r ≡ (eqb code 0 || (leb 0x51 code && leb code 0x60)) ⌝ }
-{
-    match code {
-        0 => true,
-        OP_PUSHNUM_1..=OP_PUSHNUM_16 => true,
-        _ => false,
+    match answer {
+        Judged::Answer(yes) => yes,
+        Judged::Refused(_) => false,
     }
-}
-
-// Whether a script is a witness program: a version and one direct push of 2 to 40 bytes.
-fn is_witness(script: &[u8]) -> bool
-    ensures { λ r. ⌜ r ≡ isWitnessProgram (now (script .entry)) ⌝ }
-{
-    let n = script.len();
-    if n < 4 {
-        return false;
-    }
-    if 42 < n {
-        return false;
-    }
-    if is_version(script[0]) {
-        wide(script[1]) + 2 == n
-    } else {
-        false
-    }
-}
-
-// Whether a script starts with OP_RETURN.
-fn is_return(script: &[u8]) -> bool
-    ensures { λ r. ⌜ r ≡ eqb (getD (now (script .entry)) 0 0) 0x6a ⌝ }
-{
-    if script.len() == 0 {
-        return false;
-    }
-    script[0] == OP_RETURN
 }
 
 // How many bytes state the length n of a script in an output.
@@ -190,12 +150,12 @@ fn dust_size(script: &[u8]) -> u64
     requires { ⌜ length (now script) ≤ limit ⌝ }
     ensures { λ r. ⌜ (r ≡ dustSize (now (script .entry))) × (r ≤ 4194465) ⌝ }
 {
-    if is_return(script) {
+    if holds(templates::is_op_return(script)) {
         return 0;
     }
     let n = script.len();
     let output = n + compact_size(n);
-    if is_witness(script) {
+    if holds(templates::is_witness_program(script)) {
         (output + WITNESS_SPEND_SIZE) as u64
     } else {
         (output + SPEND_SIZE) as u64

@@ -3,19 +3,19 @@ use mathlib.Core.Path.{_≡_, refl, ap}
 use mathlib.Core.Bool.{true, false}
 use mathlib.Core.List.{List, [], _∷_, _++_}
 use mathlib.Core.Logic.{⊎-elim}
-use Prim.Native.Nat.{ℕ, zero, suc, _+_, _-_, _*_, _/_, _≤_, _<_}
+use Prim.Native.Nat.{ℕ, zero, suc, _+_, _-_, _*_, _≤_, _<_}
 use native.Mathlib.Omega.{arith}
 use borrow.Author.Tests.{lt-ltb, le-leb, ne-eqb}
 use lib.ListN.{length, getD, take, drop, length-append, length-drop}
 use lib.Seq.{length-take-le}
 use Rattle.laws.specs.Said.{answers}
 use Rattle.laws.proofs.Test.{lt-or-le}
-use Rattle.opcodes.specs.Opcode.{sortOf}
+use Rattle.opcodes.specs.Opcode.{sortOf, lengthBytesAfter}
 use Rattle.opcodes.specs.Text.{text, digits, decimal}
 use Rattle.templates.specs.Kind.{kindOf}
 use Rattle.counts.specs.Count.{getSigOpCount}
-use Rattle.counts.specs.Dust.{dustSize}
-use Rattle.text.specs.Asm.{opcodeText, dataText, spaceAt, lengthBytesAfter, dataLen, textFrom, textOf}
+use Rattle.counts.specs.Dust.{dustOf}
+use Rattle.text.specs.Asm.{opcodeText, dataText, spaceAt, dataLen, textFrom, textOf}
 use Rattle.text.proofs.Turn.{ends, length-cut, opened, behind, behind-cut, behind-whole}
 use Rattle.text.proofs.Sizes.{hex-length, space-short, opcode-short}
 use Rattle.inspect.specs.Screen.{most, kindName, line, bothCounts, screenOf, inspectSays}
@@ -94,7 +94,7 @@ head-short s =
     let name = text (kindName (kindOf s)) in
     let accurate = decimal (getSigOpCount true s) in
     let legacy = decimal (getSigOpCount false s) in
-    let dust = decimal (3000 * dustSize s / 1000) in
+    let dust = decimal (dustOf s) in
     let a = line "length" size in
     let b = line "kind" name in
     let c = line "sigops" (bothCounts s) in
@@ -114,7 +114,7 @@ head-short s =
       kind-short (kindOf s),
       decimal-short (getSigOpCount true s),
       decimal-short (getSigOpCount false s),
-      decimal-short (3000 * dustSize s / 1000),
+      decimal-short (dustOf s),
     )
 
 -- 121 bytes of head, 23 for each of 2,800 bytes and a mark, and a line end

@@ -2,14 +2,14 @@
 use mathlib.Core.Path.{_≡_, sym}
 use mathlib.Core.Bool.{true}
 use mathlib.Core.List.{List, [], _∷_, _++_, append-assoc}
-use Prim.Native.Nat.{ℕ, _+_, _*_, _/_, _≤_}
+use Prim.Native.Nat.{ℕ, _+_, _≤_}
 use native.Mathlib.Omega.{arith}
 use borrow.Author.Tests.{le-ltb}
 use lib.Dec.{ltb}
 use lib.ListN.{length, drop, length-append}
 use Rattle.opcodes.specs.Text.{text, decimal}
 use Rattle.templates.specs.Kind.{kindOf}
-use Rattle.counts.specs.Dust.{dustSize}
+use Rattle.counts.specs.Dust.{dustOf}
 use Rattle.text.specs.Asm.{textOf}
 use Rattle.inspect.specs.Screen.{most, kindName, line, bothCounts, linesOf, screenOf}
 use Rattle.inspect.specs.Steps.{headOf}
@@ -28,7 +28,7 @@ module _ (s : List ℕ) (h : length s ≤ most) where
       rw (le-ltb most (length s) h)
       (sym
       (regroup (line "length" (decimal (length s))) (line "kind" (text (kindName (kindOf s)))) (line "sigops" (bothCounts s))
-      (line "dust" (decimal (3000 * dustSize s / 1000))) (text "asm ") (textOf s ++ (10 ∷ []))))
+      (line "dust" (decimal (dustOf s))) (text "asm ") (textOf s ++ (10 ∷ []))))
 
   pub within-length : length (screenOf s) ≡ length (headOf s) + length (textOf s) + 1
   within-length = rw within (omega (arith, length-append (headOf s) (textOf s ++ (10 ∷ [])), length-append (textOf s) (10 ∷ [])))

@@ -1,7 +1,7 @@
 -- The inspector's screen, from document 01, 'The inspector reads one raw script ..', made of the other crates' definitions. Assumes nothing.
 use mathlib.Core.Bool.{true, false}
 use mathlib.Core.List.{List, [], _∷_, _++_}
-use Prim.Native.Nat.{ℕ, _*_, _/_}
+use Prim.Native.Nat.{ℕ}
 use Prim.Native.String.{String}
 use lib.Dec.{ltb}
 use lib.ListN.{length}
@@ -11,7 +11,7 @@ use Rattle.laws.specs.Buffer.{writes}
 use Rattle.opcodes.specs.Text.{text, decimal}
 use Rattle.templates.specs.Kind.{Kind, p2pkh, p2sh, p2wpkh, p2wsh, p2tr, p2a, witness, p2pk, multisig, opreturn, other, kindOf}
 use Rattle.counts.specs.Count.{getSigOpCount}
-use Rattle.counts.specs.Dust.{dustSize}
+use Rattle.counts.specs.Dust.{dustOf}
 use Rattle.text.specs.Asm.{textOf}
 
 -- 'at most 2,800 bytes'
@@ -40,13 +40,13 @@ line word value = text word ++ (text " " ++ (value ++ (10 ∷ [])))
 abbrev pub bothCounts : List ℕ → List ℕ
 bothCounts s = decimal (getSigOpCount true s) ++ (text " " ++ decimal (getSigOpCount false s))
 
--- the five lines; the dust is that of the default rate, as `dustSays` has it
+-- the five lines; the dust is that of the default rate
 unfoldable pub linesOf : List ℕ → List ℕ
 linesOf s =
     line "length" (decimal (length s))
     ++ (line "kind" (text (kindName (kindOf s)))
     ++ (line "sigops" (bothCounts s)
-    ++ (line "dust" (decimal (3000 * dustSize s / 1000))
+    ++ (line "dust" (decimal (dustOf s))
     ++ line "asm" (textOf s))))
 
 -- 'more prints the one line `refused 2800`'

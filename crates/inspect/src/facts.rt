@@ -5,7 +5,7 @@ use templates::Kinded;
 use templates::Template;
 ghost use mathlib.Core.Path.{_≡_};
 ghost use mathlib.Core.Bool.{true, false};
-ghost use Prim.Native.Nat.{ℕ, _*_, _/_, _≤_};
+ghost use Prim.Native.Nat.{ℕ, _≤_};
 ghost use lib.ListN.{length};
 ghost use Rattle.laws.specs.Said.{answers};
 ghost use Rattle.refusal.specs.Answer.{saidCount};
@@ -13,7 +13,7 @@ ghost use Rattle.refusal.specs.Refusal.{limit};
 ghost use Rattle.templates.specs.Answer.{saidTemplate};
 ghost use Rattle.templates.specs.Kind.{kindOf};
 ghost use Rattle.counts.specs.Count.{getSigOpCount};
-ghost use Rattle.counts.specs.Dust.{dustSize};
+ghost use Rattle.counts.specs.Dust.{dustOf};
 ghost use Rattle.text.specs.Asm.{textOf};
 ghost use Rattle.inspect.specs.Screen.{most};
 
@@ -42,7 +42,7 @@ pub(crate) fn count_in(answer: Counted) -> usize
 // The dust figure of a script within the limit, at the default rate.
 pub(crate) fn dust_of(script: &[u8]) -> u64
     requires { ⌜ length (now script) ≤ limit ⌝ }
-    ensures { λ r. ⌜ r ≡ 3000 * dustSize (now (script .entry)) / 1000 ⌝ }
+    ensures { λ r. ⌜ r ≡ dustOf (now (script .entry)) ⌝ }
 {
     let dust = counts::minimal_non_dust(script);
     match dust {

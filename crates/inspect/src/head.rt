@@ -24,11 +24,11 @@ fn digits_of(n: u64) -> Digits
     let mut rest = n;
     while 10 <= rest {
         at -= 1;
-        bytes[at] = 48 + (rest % 10) as u8;
+        bytes[at] = b'0' + (rest % 10) as u8;
         rest = rest / 10;
     }
     at -= 1;
-    bytes[at] = 48 + (rest as u8);
+    bytes[at] = b'0' + (rest as u8);
     Digits { bytes, start: at }
 }
 
@@ -46,14 +46,10 @@ impl Head {
     {
         let mut bytes = self.bytes;
         let len = self.len;
-        let mut i: usize = 0;
-        while i < piece.len() {
-            bytes[len + i] = piece[i];
-            i += 1;
-        }
+        let added = bytes::copy(piece, &mut bytes[len..]);
         Head {
             bytes,
-            len: len + i,
+            len: len + added,
         }
     }
 

@@ -6,7 +6,6 @@ use facts::legacy_of;
 use facts::text_len;
 use head::Head;
 use head::first_lines;
-use put::put_bytes;
 use put::put_screen;
 use refusal::Counted;
 use refusal::Refusal;
@@ -56,8 +55,7 @@ fn write_refused(out: &mut [u8]) -> Counted
     if out.len() < REFUSED_LEN {
         return Counted::Refused(Refusal::NoRoom(REFUSED_LEN));
     }
-    put_bytes(b"refused 2800\n", out);
-    Counted::Count(REFUSED_LEN)
+    Counted::Count(bytes::copy(b"refused 2800\n", out))
 }
 
 // Writes a script's screen to the front of a lent buffer and answers its length. For a script over 2,800 bytes the screen is the one line

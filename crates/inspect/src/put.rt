@@ -8,18 +8,6 @@ ghost use lib.ListN.{length, take, drop};
 ghost use Rattle.refusal.specs.Refusal.{limit};
 ghost use Rattle.text.specs.Asm.{textOf};
 
-// Stores bytes at the front of a buffer that has room for them.
-pub(crate) fn put_bytes(piece: &[u8], out: &mut [u8])
-    requires { ⌜ length (now piece) ≤ length (now out) ⌝ }
-    ensures { λ _. ⌜ now (out .exit) ≡ now (piece .entry) ++ drop (length (now (piece .entry))) (now (out .entry)) ⌝ }
-{
-    let mut i: usize = 0;
-    while i < piece.len() {
-        out[i] = piece[i];
-        i += 1;
-    }
-}
-
 // Stores the text and a line end at the front of a buffer that has room for them.
 fn put_text(script: &[u8], out: &mut [u8])
     requires { ⌜ (length (now script) ≤ limit) × (length (textOf (now script)) < length (now out)) ⌝ }
@@ -34,8 +22,8 @@ pub(crate) fn put_screen(head: Head, script: &[u8], out: &mut [u8])
     requires { ⌜ (length (head .bytes) ≡ 160) × (head .len ≤ 160) × (length (now script) ≤ limit) × (head .len + length (textOf (now script)) < length (now out)) ⌝ }
     ensures { λ _. ⌜ now (out .exit) ≡ take (head .len) (head .bytes) ++ (textOf (now (script .entry)) ++ (10 ∷ drop (head .len + length (textOf (now (script .entry))) + 1) (now (out .entry)))) ⌝ }
 {
-    let bytes = head.bytes;
+    let shown = head.bytes;
     let len = head.len;
-    put_bytes(&bytes[..len], out);
+    bytes::copy(&shown[..len], out);
     put_text(script, &mut out[len..]);
 }

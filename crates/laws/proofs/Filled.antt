@@ -1,12 +1,12 @@
 -- A buffer that is filled from its front with the bytes of w: after i of them it is `filled w i old`. Assumes nothing.
-use mathlib.Core.Path.{_≡_, refl, ap, _∙_}
+use mathlib.Core.Path.{_≡_, refl, ap}
 use mathlib.Core.List.{List, [], _∷_, _++_}
-use Prim.Native.Nat.{ℕ, zero, suc, _+_, _≤_, _<_}
+use Prim.Native.Nat.{ℕ, zero, suc, _+_, _<_}
 use native.Mathlib.Nat.{le-of-suc-le-suc, not-suc-le-zero}
 use native.Mathlib.Numerals.{add-one}
 use native.Mathlib.Omega.{arith}
-use lib.ListN.{length, take, drop, getD, set, length-append, length-drop}
-use lib.Seq.{length-take-le, take-all}
+use lib.ListN.{length, take, drop, getD, set}
+use lib.Seq.{take-all}
 
 abbrev pub filled : List ℕ → ℕ → List ℕ → List ℕ
 filled w i old = take i w ++ drop i old
@@ -20,9 +20,6 @@ put-suc (a ∷ w) (o ∷ old) (suc i) h k = ap (λ (l : List ℕ). a ∷ l) (put
 -- one byte more
 pub fill-put : (w old : List ℕ) (i x : ℕ) → i < length w → i < length old → x ≡ getD w i 0 → set (filled w i old) i x ≡ filled w (i + 1) old
 fill-put w old i x h k e = rw (e, add-one) (put-suc w old i h k)
-
-pub fill-length : (w old : List ℕ) (i : ℕ) → i ≤ length w → i ≤ length old → length (filled w i old) ≡ length old
-fill-length w old i h k = simp (length-append, length-take-le, length-drop) (omega arith)
 
 -- all of it
 pub fill-done : (w old : List ℕ) (i : ℕ) → i ≡ length w → filled w i old ≡ w ++ drop (length w) old

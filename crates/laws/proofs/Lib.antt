@@ -1,4 +1,6 @@
 pub mod Test
 pub mod Settled
+pub mod Answered
 pub mod Filled
+pub mod Stored
 pub mod Table

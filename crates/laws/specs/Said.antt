@@ -6,3 +6,8 @@ use mathlib.Core.List.{List}
 pub data Said (A : Type 0) : Type 0 where
   answers : A → Said A
   refuses : ℕ → List ℕ → Said A
+
+-- what comes first decides: its refusal, and else what comes after it
+abbrev pub unless : {A B : Type 0} → Said A → Said B → Said B
+unless (answers a) said = said
+unless (refuses number values) said = refuses number values

@@ -1,6 +1,5 @@
 -- W1 to W12 and the inspector's example as one test: the checker computes the table's first column from the definitions, and finds the second. Assumes nothing.
 use mathlib.Core.Path.{_≡_, refl}
-use Rattle.laws.specs.Witness.{isWitnessProgram}
 use Rattle.opcodes.specs.Text.{decimal, digits}
 use Rattle.opcodes.specs.Names.{nameOf}
 use Rattle.walk.specs.Script.{readLE, assign, sized, operand, getScriptOp, checkMinimalPush}
@@ -10,7 +9,7 @@ use Rattle.walk.specs.Run.{walkFor, walkFrom}
 use Rattle.numbers.specs.ScriptNum.{lowBytes, serialize, setVch, nonMinimal, scriptNum}
 use Rattle.counts.specs.Count.{multisigOps, sigOps, while, getSigOpCount, countSays}
 use Rattle.counts.specs.Dust.{getSizeOfCompactSize, dustSize, dustSays}
-use Rattle.templates.specs.Fixed.{isPayToScriptHash, isPayToPubkeyHash, isProgramOf, isPayToAnchor, isKeyOf, isPayToPubkey, isOpReturn}
+use Rattle.templates.specs.Fixed.{isPayToScriptHash, isPayToPubkeyHash, isProgramOf, isPayToAnchor, isKeyOf, isPayToPubkey, isOpReturn, isWitnessProgram}
 use Rattle.templates.specs.Walked.{isMultisig}
 use Rattle.templates.specs.Kind.{kindOf}
 use Rattle.text.specs.Asm.{

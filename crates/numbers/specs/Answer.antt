@@ -2,13 +2,13 @@
 use mathlib.Core.Bool.{Bool, false}
 use mathlib.Core.List.{List, []}
 use Prim.Native.Nat.{ℕ, suc, _^_}
-use lib.Dec.{ltb, eqb}
+use lib.Dec.{eqb}
 use lib.IntN.{ℤ, pos, negsuc}
 use lib.ListN.{length}
 use Rattle.laws.specs.Choice.{if_then_else_}
 use Rattle.laws.specs.Said.{Said, answers, refuses}
 use Rattle.laws.specs.Buffer.{writes}
-use Rattle.refusal.specs.Refusal.{limit, saidRefusal}
+use Rattle.refusal.specs.Refusal.{withinLimit, saidRefusal}
 use Rattle.numbers.specs.ScriptNum.{serialize, castToBool}
 use Rattle.numbers.specs.declared.Number.{Number}
 use Rattle.numbers.specs.declared.Number.the-variants.{Value, Refused}
@@ -33,4 +33,4 @@ writeSays n room = if isLeast n then refuses 6 [] else writes (serialize n) room
 
 -- read_scriptbool: any length up to the limit
 unfoldable pub boolSays : List ℕ → Said Bool
-boolSays vch = if ltb limit (length vch) then refuses 1 [] else answers (castToBool vch)
+boolSays vch = withinLimit vch (answers (castToBool vch))

@@ -6,15 +6,8 @@ use native.Mathlib.Nat.{suc-add, add-suc, zero-add, add-zero, le-of-suc-le-suc, 
 use native.Mathlib.Omega.{arith}
 use lib.ListN.{length, getD}
 use lib.Seq.{take-append-seam, drop-append-seam}
-use Rattle.opcodes.specs.Names.{
-  nameOf,
-  namesFrom,
-  table,
-  poolOfNames,
-  startsOfNames,
-  lengthsOfNames,
-  placed,
-}
+use Rattle.opcodes.specs.Names.{nameOf}
+use Rattle.opcodes.specs.Pool.{namesFrom, table, poolOfNames, startsOfNames, lengthsOfNames, placed}
 
 module _ (f : ℕ → ℕ) where
   from : (n i k : ℕ) → k < n → getD (table f n i) k 0 ≡ f (i + k)

@@ -39,7 +39,13 @@ sortOf code =
     else if ltb code 0x61 then number
     else plain
 
--- 0x51 to 0x60 carry numbers 1 to 16: Core's DecodeOP_N, but for OP_0
+-- how many length bytes follow an opcode of a sort
+abbrev pub lengthBytesAfter : Sort → ℕ
+lengthBytesAfter (push form) = lengthBytes form
+lengthBytesAfter number = 0
+lengthBytesAfter plain = 0
+
+-- 0x51 to 0x60 carry numbers 1 to 16
 abbrev pub numberOf : ℕ → Option ℕ
 numberOf code = if ltb code 0x51 then none else if ltb code 0x61 then some (code - 0x50) else none
 

@@ -1,6 +1,5 @@
 // Opcode bytes: what sort of instruction each starts, and its name.
 ghost use mathlib.Core.Path.{_≡_};
-ghost use Prim.Native.Nat.{_≤_};
 ghost use Rattle.opcodes.specs.Opcode.{sortOf, lengthBytes, saidClass, saidForm, numberOf, verifyOf, saidCode};
 
 mod names;
@@ -13,15 +12,25 @@ pub use names::name_pool;
 pub use names::name_starts;
 pub use names::write_name;
 
+pub const OP_0: u8 = 0x00;
+
 pub const OP_PUSHDATA1: u8 = 0x4c;
 
 pub const OP_PUSHDATA2: u8 = 0x4d;
 
 pub const OP_PUSHDATA4: u8 = 0x4e;
 
+pub const OP_PUSHNUM_NEG1: u8 = 0x4f;
+
 pub const OP_PUSHNUM_1: u8 = 0x51;
 
 pub const OP_PUSHNUM_16: u8 = 0x60;
+
+pub const OP_VERIFY: u8 = 0x69;
+
+pub const OP_RETURN: u8 = 0x6a;
+
+pub const OP_DUP: u8 = 0x76;
 
 pub const OP_EQUAL: u8 = 0x87;
 
@@ -31,6 +40,8 @@ pub const OP_NUMEQUAL: u8 = 0x9c;
 
 pub const OP_NUMEQUALVERIFY: u8 = 0x9d;
 
+pub const OP_HASH160: u8 = 0xa9;
+
 pub const OP_CHECKSIG: u8 = 0xac;
 
 pub const OP_CHECKSIGVERIFY: u8 = 0xad;
@@ -38,6 +49,8 @@ pub const OP_CHECKSIGVERIFY: u8 = 0xad;
 pub const OP_CHECKMULTISIG: u8 = 0xae;
 
 pub const OP_CHECKMULTISIGVERIFY: u8 = 0xaf;
+
+pub const OP_INVALIDOPCODE: u8 = 0xff;
 
 // How a push states the length of its body: in the opcode itself, or in 1, 2 or 4 length bytes after it.
 pub enum Form {

@@ -5,7 +5,8 @@ ghost use lib.ListN.{length, getD};
 ghost use denote.Ref.{ptr};
 ghost use Rattle.laws.specs.Buffer.{writes, after};
 ghost use Rattle.refusal.specs.Answer.{saidCount};
-ghost use Rattle.opcodes.specs.Names.{nameOf, poolOfNames, startsOfNames, lengthsOfNames, placed, placeIn};
+ghost use Rattle.opcodes.specs.Names.{nameOf};
+ghost use Rattle.opcodes.specs.Pool.{poolOfNames, startsOfNames, lengthsOfNames, placed, placeIn};
 use refusal::Counted;
 use refusal::Refusal;
 
@@ -631,22 +632,6 @@ pub fn name_len(code: u8) -> usize
     name_len_in(&lengths, code)
 }
 
-// Writes bytes to the front of a lent buffer; NoRoom, with the buffer untouched, where it is shorter than they are.
-fn write_bytes(bytes: &[u8], out: &mut [u8]) -> Counted
-    ensures answer { λ r. ⌜ saidCount r ≡ writes (now (bytes .entry)) (length (now (out .entry))) ⌝ }
-    ensures left { λ r. ⌜ now (out .exit) ≡ after (writes (now (bytes .entry)) (length (now (out .entry)))) (now (bytes .entry)) (now (out .entry)) ⌝ }
-{
-    if out.len() < bytes.len() {
-        return Counted::Refused(Refusal::NoRoom(bytes.len()));
-    }
-    let mut i = 0;
-    while i < bytes.len() {
-        out[i] = bytes[i];
-        i += 1;
-    }
-    Counted::Count(i)
-}
-
 // Writes the name of an opcode to the front of a lent buffer and answers its length; NoRoom, with the buffer untouched, where the buffer is
 // shorter.
 pub fn write_name(code: u8, out: &mut [u8]) -> Counted
@@ -656,5 +641,9 @@ pub fn write_name(code: u8, out: &mut [u8]) -> Counted
     let pool = name_pool();
     let starts = name_starts();
     let lengths = name_lengths();
-    write_bytes(name_in(&pool, &starts, &lengths, code), out)
+    let name = name_in(&pool, &starts, &lengths, code);
+    if out.len() < name.len() {
+        return Counted::Refused(Refusal::NoRoom(name.len()));
+    }
+    Counted::Count(bytes::copy(name, out))
 }

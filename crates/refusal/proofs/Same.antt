@@ -5,9 +5,10 @@ use Prim.Native.Nat.{ℕ}
 use lib.Dec.{eqb}
 use lib.ListN.{getD}
 use Rattle.laws.specs.Choice.{if_then_else_}
-use Rattle.laws.specs.Said.{Said}
 use Rattle.refusal.specs.Refusal.{numberOf, valuesOf, saidRefusal}
-use Rattle.refusal.specs.Answer.{saidCount, saidJudged}
+use Rattle.refusal.specs.Answer.{saidValue, saidCount, saidJudged}
+use Rattle.refusal.specs.declared.Value.{Value}
+use Rattle.refusal.specs.declared.Value.the-variants.{Is, Nothing}
 use Rattle.refusal.specs.declared.Refusal.{Refusal}
 use Rattle.refusal.specs.declared.Refusal.the-variants.{
   TooLong,
@@ -67,6 +68,12 @@ by-name r t p q = sym (back r) ∙ ap₂ named p q ∙ back t
 -- for the answers of every crate: two refusals that say the same are the same
 pub same-refusal : {A : Type 0} (r t : Refusal) → saidRefusal {A = A} r ≡ saidRefusal t → r ≡ t
 same-refusal r t e = by-name r t (cc) (cc)
+
+pub same-said : (a b : Value) → saidValue a ≡ saidValue b → a ≡ b
+same-said (Is n) (Is m) e = cc
+same-said (Is n) Nothing e = cc
+same-said Nothing (Is m) e = cc
+same-said Nothing Nothing e = refl
 
 pub same-count : (a b : Counted) → saidCount a ≡ saidCount b → a ≡ b
 same-count (Count n) (Count m) e = cc

@@ -1,6 +1,9 @@
 -- Document 01's table 'Refusals by number': the number of each refusal, and the values that its line names. Assumes nothing.
 use Prim.Native.Nat.{ℕ}
 use mathlib.Core.List.{List, [], _∷_}
+use lib.Dec.{ltb}
+use lib.ListN.{length}
+use Rattle.laws.specs.Choice.{if_then_else_}
 use Rattle.laws.specs.Said.{Said, refuses}
 use Rattle.refusal.specs.declared.Refusal.{Refusal}
 use Rattle.refusal.specs.declared.Refusal.the-variants.{
@@ -18,10 +21,6 @@ use Rattle.refusal.specs.declared.Refusal.the-variants.{
   BadVersion,
   BadBuilder,
 }
-
--- the longest script, in bytes
-abbrev pub limit : ℕ
-limit = 4194304
 
 abbrev pub numberOf : Refusal → ℕ
 numberOf TooLong = 1
@@ -56,3 +55,11 @@ valuesOf BadBuilder = []
 -- a refusal, as an entry says it
 abbrev pub saidRefusal : {A : Type 0} → Refusal → Said A
 saidRefusal r = refuses (numberOf r) (valuesOf r)
+
+-- the longest script, in bytes
+abbrev pub limit : ℕ
+limit = 4194304
+
+-- refusal 1 for bytes over the limit, and else what is said of them
+abbrev pub withinLimit : {A : Type 0} → List ℕ → Said A → Said A
+withinLimit s said = if ltb limit (length s) then refuses 1 [] else said

@@ -1,8 +1,9 @@
 // The refusals of document 01, and the two answers that most entries give.
 ghost use mathlib.Core.Path.{_≡_};
-ghost use Rattle.refusal.specs.Refusal.{numberOf};
+ghost use Rattle.refusal.specs.Refusal.{numberOf, valuesOf};
+ghost use Rattle.refusal.specs.Answer.{saidValue};
 
-// One variant for each line of document 01's table, holding that line's values. Nothing else in the code lists refusals.
+// One variant for each line of document 01's table, holding that line's values.
 pub enum Refusal {
     // 1: an input or a built script is longer than MAX_SCRIPT bytes.
     TooLong,
@@ -32,6 +33,12 @@ pub enum Refusal {
     BadBuilder,
 }
 
+// The value that stands beside a refusal's number, where there is one.
+pub enum Value {
+    Is(usize),
+    Nothing,
+}
+
 // The longest script that is taken, in bytes.
 pub const MAX_SCRIPT: usize = 4_194_304;
 
@@ -54,6 +61,27 @@ impl Refusal {
             Refusal::ProgramLengthV0 => 11,
             Refusal::BadVersion => 12,
             Refusal::BadBuilder => 13,
+        }
+    }
+
+    // What stands beside the number: a place, what is needed, or nothing.
+    pub fn value(self) -> Value
+        ensures { λ r. ⌜ saidValue r ≡ valuesOf self ⌝ }
+    {
+        match self {
+            Refusal::TooLong => Value::Nothing,
+            Refusal::NonMinimal(place) => Value::Is(place),
+            Refusal::EarlyEnd(place) => Value::Is(place),
+            Refusal::NumberTooLong => Value::Nothing,
+            Refusal::NumberNotMinimal => Value::Nothing,
+            Refusal::NumberOutOfRange => Value::Nothing,
+            Refusal::NoRoom(needed) => Value::Is(needed),
+            Refusal::BadCursor => Value::Nothing,
+            Refusal::FeeTooLarge => Value::Nothing,
+            Refusal::ProgramLength => Value::Nothing,
+            Refusal::ProgramLengthV0 => Value::Nothing,
+            Refusal::BadVersion => Value::Nothing,
+            Refusal::BadBuilder => Value::Nothing,
         }
     }
 }

@@ -15,6 +15,10 @@ module _ {A : Type 0} (f : List ℕ → A) (s : List ℕ) where
   too-long h = rw (lt-ltb limit (length s) h)
 
   -- within it
+  pub judges-within : length s ≤ limit → judges f s ≡ answers (f s)
+  unfolding judges
+  judges-within h = rw (le-ltb limit (length s) h)
+
   pub judged : length s ≤ limit → {a : A} → a ≡ f s → answers a ≡ judges f s
   unfolding judges
   judged h e = rw (le-ltb limit (length s) h, e)

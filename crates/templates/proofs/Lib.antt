@@ -1,4 +1,3 @@
-pub mod Both
 pub mod Judging
 pub mod Program
 pub mod Runs

@@ -18,7 +18,7 @@ use Rattle.walk.proofs.Good.{Good, good}
 use Rattle.templates.specs.Fixed.{isKeyOf, isPayToPubkey}
 use Rattle.templates.specs.Walked.{Stretch, stretch, unrefused, every, isPush, lastBody, redeemScript}
 use Rattle.templates.specs.Says.{judges, pubkeyOf, startOf, lenOf}
-use Rattle.templates.proofs.Both.{and-left, either}
+use Rattle.laws.proofs.Test.{and-left, either}
 
 module _ (s : List ℕ) where
   abbrev Within : Option Stretch → Type 0

@@ -6,15 +6,14 @@ use mathlib.Core.List.{List}
 use mathlib.Core.Option.{none, some}
 use Prim.Native.Nat.{ℕ, _+_, _-_, _≤_}
 use native.Mathlib.Omega.{arith}
-use borrow.Author.Tests.{lt-ltb, le-ltb, le-leb, lt-leb, leb-true, eq-eqb, ne-eqb, eqb-true}
+use borrow.Author.Tests.{lt-ltb, le-ltb, le-leb, lt-leb, leb-true, eq-eqb, ne-eqb}
 use lib.Dec.{leb, eqb}
 use lib.ListN.{length, getD}
 use Rattle.laws.specs.Choice.{if_then_else_}
-use Rattle.laws.specs.Witness.{isWitnessProgram}
 use Rattle.laws.proofs.Test.{lt-or-le}
 use Rattle.opcodes.specs.Opcode.{numberOf}
-use Rattle.templates.specs.Fixed.{versionOf, witnessVersion, isProgramOf, isPayToAnchor}
-use Rattle.templates.proofs.Both.{and-left, and-right}
+use Rattle.templates.specs.Fixed.{versionOf, witnessVersion, isProgramOf, isWitnessProgram}
+use Rattle.laws.proofs.Test.{and-left}
 
 -- a number opcode, as BIP 141 asks of the first byte
 pub number-version : (b : ℕ) → (b ≡ 0 → ⊥) → numberOf b ≡ (if (eqb b 0 || (leb 0x51 b && leb b 0x60)) then some (if eqb b 0 then 0 else b - (0x51 - 1)) else none)
@@ -49,7 +48,7 @@ module _ (s : List ℕ) where
 
   pub program-long : isWitnessProgram s ≡ true → 4 ≤ length s
   unfolding isWitnessProgram
-  program-long e = leb-true 4 (length s) (and-left _ _ e)
+  program-long e = leb-true 4 (length s) (and-left _ _ (and-left _ _ (and-left _ _ e)))
 
   module _ (version size : ℕ) where
     -- the script has the length of such a program
@@ -70,24 +69,3 @@ module _ (s : List ℕ) where
         go : (b : Bool) → isWitnessProgram s ≡ b → false ≡ (b && eqb (versionOf s) version && eqb (length s - 2) size)
         go true e = let l = program-long e in rw (ne-eqb (length s - 2) size (λ q. h (omega arith)), and-false)
         go false e = refl
-
-    -- P2WPKH, P2WSH and P2TR are witness programs
-    pub program-is-witness : isProgramOf version size s ≡ true → isWitnessProgram s ≡ true
-    unfolding isProgramOf
-    program-is-witness e =
-        and-left (isWitnessProgram s) (eqb (versionOf s) version)
-        (and-left (isWitnessProgram s && eqb (versionOf s) version) (eqb (length s - 2) size) e)
-
-  -- and so is P2A
-  pub anchor-is-witness : isPayToAnchor s ≡ true → isWitnessProgram s ≡ true
-  unfolding isPayToAnchor isWitnessProgram
-  anchor-is-witness e =
-      let n : Bool = eqb (length s) 4 in
-      let a : Bool = eqb (getD s 0 0) 0x51 in
-      let b : Bool = eqb (getD s 1 0) 2 in
-      let d : (n && a && b) ≡ true = and-left (n && a && b) (eqb (getD s 2 0) 0x4e) (and-left (n && a && b && eqb (getD s 2 0) 0x4e) (eqb (getD s 3 0) 0x73) e) in
-      rw (
-        eqb-true (length s) 4 (and-left n a (and-left (n && a) b d)),
-        eqb-true (getD s 0 0) 0x51 (and-right n a (and-left (n && a) b d)),
-        eqb-true (getD s 1 0) 2 (and-right (n && a) b d),
-      )

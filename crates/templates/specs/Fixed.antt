@@ -6,25 +6,7 @@ use Prim.Native.Nat.{ℕ, _+_, _-_}
 use lib.Dec.{leb, eqb}
 use lib.ListN.{length, getD, drop}
 use Rattle.laws.specs.Choice.{if_then_else_}
-use Rattle.laws.specs.Witness.{isWitnessProgram}
-
-abbrev pub OP-RETURN : ℕ
-OP-RETURN = 0x6a
-
-abbrev pub OP-DUP : ℕ
-OP-DUP = 0x76
-
-abbrev pub OP-EQUAL : ℕ
-OP-EQUAL = 0x87
-
-abbrev pub OP-EQUALVERIFY : ℕ
-OP-EQUALVERIFY = 0x88
-
-abbrev pub OP-HASH160 : ℕ
-OP-HASH160 = 0xa9
-
-abbrev pub OP-CHECKSIG : ℕ
-OP-CHECKSIG = 0xac
+use Rattle.opcodes.specs.Core.{OP-0, OP-1, OP-16, OP-RETURN, OP-DUP, OP-EQUAL, OP-EQUALVERIFY, OP-HASH160, OP-CHECKSIG, decodeOP-N}
 
 -- CScript::IsPayToScriptHash of Core's script/script.cpp: size 23; byte 0 is OP_HASH160, byte 1 is 0x14, byte 22 is OP_EQUAL
 unfoldable pub isPayToScriptHash : List ℕ → Bool
@@ -36,15 +18,19 @@ isPayToPubkeyHash s =
     eqb (length s) 25 && eqb (getD s 0 0) OP-DUP && eqb (getD s 1 0) OP-HASH160 && eqb (getD s 2 0) 0x14 && eqb (getD s 23 0) OP-EQUALVERIFY
     && eqb (getD s 24 0) OP-CHECKSIG
 
--- DecodeOP_N of Core's script/script.h: 0 for OP_0, else opcode - (OP_1 - 1)
-abbrev pub decodeOpN : ℕ → ℕ
-decodeOpN opcode = if eqb opcode 0 then 0 else opcode - (0x51 - 1)
+-- CScript::IsWitnessProgram of Core's script/script.cpp, which BIP 141 states: size from 4 to 42; byte 0 is OP_0 or from OP_1 to OP_16; byte 1
+-- plus 2 equals the size
+unfoldable pub isWitnessProgram : List ℕ → Bool
+isWitnessProgram s =
+    leb 4 (length s) && leb (length s) 42
+    && (eqb (getD s 0 0) OP-0 || (leb OP-1 (getD s 0 0) && leb (getD s 0 0) OP-16))
+    && eqb (getD s 1 0 + 2) (length s)
 
--- CScript::IsWitnessProgram of Core's script/script.cpp: version is DecodeOP_N of byte 0
+-- its version is DecodeOP_N of byte 0
 abbrev pub versionOf : List ℕ → ℕ
-versionOf s = decodeOpN (getD s 0 0)
+versionOf s = decodeOP-N (getD s 0 0)
 
--- and program is the bytes from 2 on
+-- and its program is the bytes from 2 on
 abbrev pub programLength : List ℕ → ℕ
 programLength s = length s - 2
 

@@ -3,10 +3,10 @@ use mathlib.Core.Bool.{Bool, true}
 use mathlib.Core.List.{List, [], _∷_}
 use Prim.Native.Nat.{ℕ}
 use Rattle.laws.specs.Choice.{if_then_else_}
-use Rattle.laws.specs.Witness.{isWitnessProgram}
 use Rattle.templates.specs.Fixed.{
   isPayToPubkeyHash,
   isPayToScriptHash,
+  isWitnessProgram,
   isPayToWitnessPubkeyHash,
   isPayToWitnessScriptHash,
   isPayToTaproot,

@@ -1,19 +1,18 @@
 -- What the entries say of a script. Assumes nothing.
-use mathlib.Core.List.{List, []}
+use mathlib.Core.List.{List}
 use mathlib.Core.Option.{Option, none, some}
 use Prim.Native.Nat.{ℕ, _-_}
-use lib.Dec.{ltb}
 use lib.ListN.{length}
 use Rattle.laws.specs.Choice.{if_then_else_}
 use Rattle.laws.specs.Said.{Said, answers, refuses}
 use Rattle.laws.specs.Buffer.{writes}
-use Rattle.refusal.specs.Refusal.{limit}
+use Rattle.refusal.specs.Refusal.{withinLimit}
 use Rattle.templates.specs.Fixed.{isPayToPubkey, isPayToWitnessPubkeyHash, scriptCode}
 use Rattle.templates.specs.Walked.{Stretch, stretch}
 
 -- refusal 1 for a script over the limit, else what f tells of it
 unfoldable pub judges : {A : Type 0} → (List ℕ → A) → List ℕ → Said A
-judges f s = if ltb limit (length s) then refuses 1 [] else answers (f s)
+judges f s = withinLimit s (answers (f s))
 
 -- 'P2PK': the key is shown as bytes 1 to length minus 2
 unfoldable pub pubkeyOf : List ℕ → Option Stretch
@@ -38,6 +37,4 @@ written (refuses number values) = refuses number values
 -- 'p2wpkh_script_code': refusal 1; nothing for all but P2WPKH; refusal 7 last
 unfoldable pub codeSays : List ℕ → ℕ → Said (Option ℕ)
 codeSays s room =
-    if ltb limit (length s) then refuses 1 []
-    else if isPayToWitnessPubkeyHash s then written (writes (scriptCode s) room)
-    else answers none
+    withinLimit s (if isPayToWitnessPubkeyHash s then written (writes (scriptCode s) room) else answers none)

@@ -6,15 +6,10 @@ use Prim.Native.Nat.{ℕ, suc}
 use lib.Dec.{leb, eqb}
 use Rattle.laws.specs.Choice.{if_then_else_}
 use Rattle.laws.specs.Said.{Said, answers, refuses}
+use Rattle.opcodes.specs.Core.{OP-16, OP-CHECKMULTISIG}
 use Rattle.opcodes.specs.Opcode.{numberOf}
 use Rattle.walk.specs.Walk.{Walked, end, opcode, push}
 use Rattle.walk.specs.Run.{Run, stop, item, walkFrom, items, ending}
-
-abbrev pub OP-16 : ℕ
-OP-16 = 0x60
-
-abbrev pub OP-CHECKMULTISIG : ℕ
-OP-CHECKMULTISIG = 0xae
 
 -- a walk that ends so met no refusal
 abbrev pub unrefused : Said Walked → Bool

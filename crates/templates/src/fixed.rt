@@ -1,19 +1,16 @@
 // Tests of the bytes that stand at fixed places of a script. Each looks at the length first, and none at more than five bytes.
 use opcodes::Code;
+use opcodes::OP_0;
 use opcodes::OP_CHECKSIG;
+use opcodes::OP_DUP;
 use opcodes::OP_EQUAL;
 use opcodes::OP_EQUALVERIFY;
+use opcodes::OP_HASH160;
 use opcodes::OP_PUSHNUM_1;
+use opcodes::OP_RETURN;
 ghost use mathlib.Core.Path.{_≡_};
-ghost use Rattle.laws.specs.Witness.{isWitnessProgram};
 ghost use Rattle.opcodes.specs.Opcode.{saidCode};
-ghost use Rattle.templates.specs.Fixed.{isPayToScriptHash, isPayToPubkeyHash, witnessVersion, isProgramOf, isPayToAnchor, isKeyOf, isPayToPubkey, isOpReturn};
-
-pub(crate) const OP_RETURN: u8 = 0x6a;
-
-pub(crate) const OP_DUP: u8 = 0x76;
-
-pub(crate) const OP_HASH160: u8 = 0xa9;
+ghost use Rattle.templates.specs.Fixed.{isPayToScriptHash, isPayToPubkeyHash, witnessVersion, isProgramOf, isPayToAnchor, isKeyOf, isPayToPubkey, isOpReturn, isWitnessProgram};
 
 // The bytes of the scripts whose length is fixed.
 const P2SH_LEN: usize = 23;
@@ -44,12 +41,6 @@ const ANCHOR_SECOND: u8 = 0x73;
 const MIN_WITNESS: usize = 4;
 
 const MAX_WITNESS: usize = 42;
-
-fn wide(x: u8) -> usize
-    ensures { λ r. ⌜ r ≡ x ⌝ }
-{
-    x as usize
-}
 
 // Pay to script hash.
 pub(crate) fn p2sh(s: &[u8]) -> bool
@@ -88,11 +79,11 @@ pub(crate) fn version(s: &[u8]) -> Code
     if MAX_WITNESS < n {
         return Code::Nothing;
     }
-    if wide(s[1]) + 2 != n {
+    if s[1] as usize + 2 != n {
         return Code::Nothing;
     }
     let code = s[0];
-    if code == 0 {
+    if code == OP_0 {
         return Code::Is(0);
     }
     opcodes::decode_pushnum(code)
@@ -113,7 +104,7 @@ pub(crate) fn witness(s: &[u8]) -> bool
 pub(crate) fn program(s: &[u8], number: u8, size: u8) -> bool
     ensures { λ r. ⌜ r ≡ isProgramOf number size (now (s .entry)) ⌝ }
 {
-    if s.len() == wide(size) + 2 {
+    if s.len() == size as usize + 2 {
         let found = version(s);
         match found {
             Code::Is(v) => v == number,
@@ -142,7 +133,7 @@ pub(crate) fn p2a(s: &[u8]) -> bool
 fn keyed(s: &[u8], size: u8) -> bool
     ensures { λ r. ⌜ r ≡ isKeyOf size (now (s .entry)) ⌝ }
 {
-    let n = wide(size);
+    let n = size as usize;
     if s.len() == n + 2 {
         (s[0] == size) & (s[n + 1] == OP_CHECKSIG)
     } else {

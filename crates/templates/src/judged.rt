@@ -7,9 +7,8 @@ use refusal::Judged;
 use refusal::MAX_SCRIPT;
 use refusal::Refusal;
 ghost use mathlib.Core.Path.{_≡_};
-ghost use Rattle.laws.specs.Witness.{isWitnessProgram};
 ghost use Rattle.refusal.specs.Answer.{saidJudged};
-ghost use Rattle.templates.specs.Fixed.{isPayToScriptHash, isPayToPubkeyHash, isPayToWitnessPubkeyHash, isPayToWitnessScriptHash, isPayToTaproot, isPayToAnchor, isPayToPubkey, isOpReturn};
+ghost use Rattle.templates.specs.Fixed.{isPayToScriptHash, isPayToPubkeyHash, isPayToWitnessPubkeyHash, isPayToWitnessScriptHash, isPayToTaproot, isPayToAnchor, isPayToPubkey, isOpReturn, isWitnessProgram};
 ghost use Rattle.templates.specs.Walked.{isMultisig, isPushOnly};
 ghost use Rattle.templates.specs.Says.{judges};
 

@@ -1,11 +1,11 @@
 // Templates: which of the standard forms a script has, and what stands in it.
 use fixed::HASH160_SIZE;
 use fixed::HASH256_SIZE;
-use fixed::OP_DUP;
-use fixed::OP_HASH160;
 use opcodes::Code;
 use opcodes::OP_CHECKSIG;
+use opcodes::OP_DUP;
 use opcodes::OP_EQUALVERIFY;
+use opcodes::OP_HASH160;
 use refusal::MAX_SCRIPT;
 use refusal::Refusal;
 ghost use mathlib.Core.Path.{_≡_};
@@ -36,6 +36,9 @@ pub use judged::is_p2wpkh;
 pub use judged::is_p2wsh;
 pub use judged::is_push_only;
 pub use judged::is_witness_program;
+
+// Where the program of a witness program starts.
+const PROGRAM_START: usize = 2;
 
 // The bytes of a script code, and where the hash lies in it.
 const SCRIPT_CODE_SIZE: usize = 25;
@@ -160,11 +163,7 @@ fn write_script_code(script: &[u8], out: &mut [u8])
     out[0] = OP_DUP;
     out[1] = OP_HASH160;
     out[2] = HASH160_SIZE;
-    let mut i = HASH_START;
-    while i < HASH_END {
-        out[i] = script[i - 1];
-        i += 1;
-    }
+    bytes::copy(&script[PROGRAM_START..], &mut out[HASH_START..]);
     out[HASH_END] = OP_EQUALVERIFY;
     out[HASH_END + 1] = OP_CHECKSIG;
 }

@@ -6,12 +6,11 @@ use Prim.Native.Nat.{ℕ, _+_, _-_, _*_, _^_, _≤_, _<_}
 use native.Mathlib.Omega.{arith}
 use lib.ListN.{length, getD}
 use Rattle.laws.proofs.Test.{lt-or-le}
-use Rattle.opcodes.specs.Opcode.{Sort, push, number, plain}
+use Rattle.opcodes.specs.Opcode.{Sort, push, number, plain, lengthBytesAfter}
 use Rattle.walk.specs.Script.{readLE}
 use Rattle.walk.specs.Instruction.{Bytes}
 use Rattle.walk.proofs.Little.{le-more, le-small}
 use Rattle.walk.proofs.Step.{few}
-use Rattle.text.specs.Asm.{lengthBytesAfter}
 
 pub record Stated (s : List ℕ) (at k stated i : ℕ) : Type 0 where
   pub at-most : k ≤ 4

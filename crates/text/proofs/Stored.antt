@@ -1,17 +1,13 @@
 -- Bytes that are stored one run behind the other are stored as one run. Assumes nothing.
 use mathlib.Core.Path.{_≡_, refl, sym, _∙_}
-use mathlib.Core.List.{List, [], _∷_, _++_}
+use mathlib.Core.List.{List, _++_}
 use Prim.Native.Nat.{ℕ, suc, _+_, _/_, _%_, _≤_, _<_}
-use native.Mathlib.Nat.{add-zero, add-suc, suc-add}
 use native.Mathlib.Numerals.{add-one}
 use native.Mathlib.Omega.{arith}
 use lib.ListN.{length, set, getD, drop, length-append}
 use lib.Seq.{sets, length-sets, drop-cons}
+use Rattle.laws.proofs.Stored.{stored-both}
 use Rattle.text.specs.Asm.{hexDigit, hex}
-
-pub stored-both : (l : List ℕ) (i : ℕ) (a b : List ℕ) → sets l i (a ++ b) ≡ sets (sets l i a) (i + length a) b
-stored-both l i [] b = rw add-zero
-stored-both l i (x ∷ a) b = stored-both (set l i x) (suc i) a b ∙ rw (suc-add, add-suc)
 
 -- a run of w is still to be stored from n on in a buffer that has room for it; then it is what `old` becomes
 pub record Left (w old : List ℕ) (n : ℕ) (out rest : List ℕ) : Type 0 where
@@ -41,10 +37,6 @@ module _ {w old out : List ℕ} {n : ℕ} where
 
   pub last : {a : List ℕ} → Left w old n out a → {new : List ℕ} → new ≡ sets out n a → new ≡ sets old 0 w
   last f g = g ∙ f .then
-
--- one byte of a run, and the rest of it
-pub store-next : (out bytes : List ℕ) (m i : ℕ) → i < length bytes → sets out m (drop i bytes) ≡ sets (set out m (getD bytes i 0)) (m + 1) (drop (i + 1) bytes)
-store-next out bytes m i h = rw (drop-cons bytes i 0 h, add-one m, add-one i)
 
 -- one byte of a run in hex, and the rest of it
 pub store-hex : (out bytes : List ℕ) (m i : ℕ) → i < length bytes

@@ -10,22 +10,11 @@ use lib.Dec.{ltb}
 use lib.ListN.{length, getD, take, drop}
 use Rattle.laws.specs.Choice.{if_then_else_}
 use Rattle.laws.proofs.Test.{lt-or-le}
-use Rattle.opcodes.specs.Opcode.{sortOf}
+use Rattle.opcodes.specs.Opcode.{sortOf, lengthBytesAfter}
 use Rattle.opcodes.specs.Text.{text}
-use Rattle.walk.specs.Script.{OP-PUSHDATA1, readLE}
-use Rattle.text.specs.Asm.{
-  opcodeText,
-  dataText,
-  spaceAt,
-  lengthBytesAfter,
-  dataAt,
-  dataLen,
-  bodyText,
-  textAt,
-  nextPlace,
-  textFor,
-  textFrom,
-}
+use Rattle.walk.specs.Script.{readLE}
+use Rattle.opcodes.specs.Core.{OP-PUSHDATA1}
+use Rattle.text.specs.Asm.{opcodeText, dataText, spaceAt, dataAt, dataLen, bodyText, textAt, nextPlace, textFor, textFrom}
 
 -- where a turn ends, it is further on
 goes-on : (s : List ℕ) (at : ℕ) → at < length s → at < nextPlace s at

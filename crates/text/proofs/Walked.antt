@@ -9,7 +9,7 @@ use borrow.Author.Tests.{lt-ltb, le-ltb, ne-eqb}
 use lib.ListN.{length, getD, take, drop, length-drop}
 use lib.Seq.{length-take-le}
 use Rattle.laws.specs.Said.{Said, answers, refuses}
-use Rattle.opcodes.specs.Opcode.{PushForm, direct, pushdata1, pushdata2, pushdata4, lengthBytes, sortOf}
+use Rattle.opcodes.specs.Opcode.{PushForm, direct, pushdata1, pushdata2, pushdata4, lengthBytes, sortOf, lengthBytesAfter}
 use Rattle.opcodes.specs.Opcode as sort
 use Rattle.walk.specs.Script.{readLE}
 use Rattle.walk.specs.Walk.{Walked, end, opcode, push, walkSays, nextAt}
@@ -22,7 +22,7 @@ use Rattle.walk.proofs.Step.{by-sort, push-code}
 use Rattle.walk.proofs.Minimal.{IsOf}
 use Rattle.walk.proofs.Good.{good-answer}
 use Rattle.walk.proofs.Run.{Moves, turn, moves}
-use Rattle.text.specs.Asm.{opcodeText, dataText, spaceAt, lengthBytesAfter, dataLen, textFrom, textOf}
+use Rattle.text.specs.Asm.{opcodeText, dataText, spaceAt, dataLen, textFrom, textOf}
 use Rattle.text.specs.Joined.{instructionText, instructions, eachSpaced, joined}
 use Rattle.text.proofs.Turn.{ends, opened, behind-whole}
 

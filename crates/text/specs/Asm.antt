@@ -4,13 +4,14 @@ use Prim.Native.Nat.{ℕ, zero, suc, _+_, _-_, _/_, _%_, min}
 use lib.Dec.{ltb, leb, eqb}
 use lib.ListN.{length, getD, take, drop}
 use Rattle.laws.specs.Choice.{if_then_else_}
-use Rattle.laws.specs.Said.{Said, answers, refuses}
+use Rattle.laws.specs.Said.{Said, answers}
 use Rattle.laws.specs.Buffer.{writes}
-use Rattle.refusal.specs.Refusal.{limit}
-use Rattle.opcodes.specs.Opcode.{Sort, push, number, plain, sortOf, lengthBytes}
+use Rattle.refusal.specs.Refusal.{withinLimit}
+use Rattle.opcodes.specs.Opcode.{sortOf, lengthBytesAfter}
 use Rattle.opcodes.specs.Text.{text}
 use Rattle.opcodes.specs.Names.{nameOf}
-use Rattle.walk.specs.Script.{OP-PUSHDATA1, readLE}
+use Rattle.walk.specs.Script.{readLE}
+use Rattle.opcodes.specs.Core.{OP-PUSHDATA1}
 
 -- a lower-case hex digit
 abbrev pub hexDigit : ℕ → ℕ
@@ -32,12 +33,6 @@ dataText bytes = if eqb (length bytes) 0 then [] else text " " ++ hex bytes
 -- 'One space between instructions': before each but the one at the script's front
 unfoldable pub spaceAt : ℕ → List ℕ
 spaceAt at = if eqb at 0 then [] else text " "
-
--- how many length bytes follow an opcode
-abbrev pub lengthBytesAfter : Sort → ℕ
-lengthBytesAfter (push form) = lengthBytes form
-lengthBytesAfter number = 0
-lengthBytesAfter plain = 0
 
 -- where the data of the instruction at a place start
 unfoldable pub dataAt : List ℕ → ℕ → ℕ
@@ -80,8 +75,8 @@ textOf s = textFrom s 0
 
 -- the text's length, or refusal 1
 unfoldable pub asmLenSays : List ℕ → Said ℕ
-asmLenSays s = if ltb limit (length s) then refuses 1 [] else answers (length (textOf s))
+asmLenSays s = withinLimit s (answers (length (textOf s)))
 
 -- the text written to a buffer of so many bytes, or refusal 1, then 7
 unfoldable pub asmSays : List ℕ → ℕ → Said ℕ
-asmSays s room = if ltb limit (length s) then refuses 1 [] else writes (textOf s) room
+asmSays s room = withinLimit s (writes (textOf s) room)

@@ -5,22 +5,21 @@ use put::put_push_past_end;
 use put::put_space;
 use put::put_unexpected_end;
 use refusal::Counted;
+use refusal::MAX_SCRIPT;
 use refusal::Refusal;
 use size::data_len;
 use size::data_text_len;
 use size::length_bytes_after;
 use size::opcode_text_len;
 use size::space_len;
-use size::wide;
 ghost use mathlib.Core.Path.{_≡_};
 ghost use Prim.Native.Nat.{_≤_};
-ghost use lib.Dec.{ltb};
 ghost use lib.ListN.{length};
 ghost use lib.Seq.{sets};
 ghost use Rattle.laws.specs.Buffer.{after};
 ghost use Rattle.refusal.specs.Refusal.{limit};
 ghost use Rattle.refusal.specs.Answer.{saidCount};
-ghost use Rattle.opcodes.specs.Names.{poolOfNames, startsOfNames, lengthsOfNames};
+ghost use Rattle.opcodes.specs.Pool.{poolOfNames, startsOfNames, lengthsOfNames};
 ghost use Rattle.text.specs.Asm.{textOf, asmLenSays, asmSays};
 
 mod put;
@@ -50,7 +49,7 @@ fn measure(script: &[u8], lengths: &[u8; 256]) -> usize
                 n += UNEXPECTED_END_LEN;
                 break 'script;
             }
-            stated = stated * 256 + wide(script[at + i]);
+            stated = stated * 256 + (script[at + i] as usize);
             i -= 1;
         }
         let body = at + 1 + k;
@@ -67,18 +66,11 @@ fn measure(script: &[u8], lengths: &[u8; 256]) -> usize
     n
 }
 
-// Whether a script is over the limit.
-fn is_too_long(script: &[u8]) -> bool
-    ensures { λ r. ⌜ r ≡ ltb limit (length (now (script .entry))) ⌝ }
-{
-    refusal::MAX_SCRIPT < script.len()
-}
-
 // The text's length. Refused with 1 for a script over the limit.
 pub fn asm_len(script: &[u8]) -> Counted
     ensures { λ r. ⌜ saidCount r ≡ asmLenSays (now (script .entry)) ⌝ }
 {
-    if is_too_long(script) {
+    if MAX_SCRIPT < script.len() {
         return Counted::Refused(Refusal::TooLong);
     }
     let lengths = opcodes::name_lengths();
@@ -103,7 +95,7 @@ fn write_text(script: &[u8], pool: &[u8], starts: &[u16; 256], lengths: &[u8; 25
                 put_unexpected_end(out, n);
                 break 'script;
             }
-            stated = stated * 256 + wide(script[at + i]);
+            stated = stated * 256 + (script[at + i] as usize);
             i -= 1;
         }
         let body = at + 1 + k;
@@ -127,7 +119,7 @@ pub fn write_asm(script: &[u8], out: &mut [u8]) -> Counted
     ensures answer { λ r. ⌜ saidCount r ≡ asmSays (now (script .entry)) (length (now (out .entry))) ⌝ }
     ensures left { λ r. ⌜ now (out .exit) ≡ after (asmSays (now (script .entry)) (length (now (out .entry)))) (textOf (now (script .entry))) (now (out .entry)) ⌝ }
 {
-    if is_too_long(script) {
+    if MAX_SCRIPT < script.len() {
         return Counted::Refused(Refusal::TooLong);
     }
     let pool = opcodes::name_pool();

@@ -4,21 +4,16 @@ ghost use Prim.Native.Nat.{_+_, _≤_, _<_};
 ghost use lib.ListN.{length};
 ghost use lib.Seq.{sets};
 ghost use Rattle.opcodes.specs.Text.{text};
-ghost use Rattle.opcodes.specs.Names.{poolOfNames, startsOfNames, lengthsOfNames};
+ghost use Rattle.opcodes.specs.Pool.{poolOfNames, startsOfNames, lengthsOfNames};
 ghost use Rattle.text.specs.Asm.{hexDigit, hex, opcodeText, dataText, spaceAt};
 
 // Stores bytes from n on; the place behind them.
-fn put_bytes(out: &mut [u8], n: usize, bytes: &[u8]) -> usize
-    requires { ⌜ n + length (now bytes) ≤ length (now out) ⌝ }
-    ensures next { λ r. ⌜ r ≡ n + length (now (bytes .entry)) ⌝ }
-    ensures left { λ _. ⌜ now (out .exit) ≡ sets (now (out .entry)) n (now (bytes .entry)) ⌝ }
+fn put_bytes(out: &mut [u8], n: usize, piece: &[u8]) -> usize
+    requires { ⌜ n + length (now piece) ≤ length (now out) ⌝ }
+    ensures next { λ r. ⌜ r ≡ n + length (now (piece .entry)) ⌝ }
+    ensures left { λ _. ⌜ now (out .exit) ≡ sets (now (out .entry)) n (now (piece .entry)) ⌝ }
 {
-    let mut i: usize = 0;
-    while i < bytes.len() {
-        out[n + i] = bytes[i];
-        i += 1;
-    }
-    n + i
+    n + bytes::copy(piece, &mut out[n..])
 }
 
 // The hex digit of a half byte.

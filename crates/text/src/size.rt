@@ -6,20 +6,13 @@ ghost use lib.Dec.{ltb, eqb};
 ghost use lib.ListN.{length};
 ghost use Rattle.laws.specs.Choice.{if_then_else_};
 ghost use Rattle.refusal.specs.Refusal.{limit};
-ghost use Rattle.opcodes.specs.Opcode.{sortOf};
-ghost use Rattle.opcodes.specs.Names.{lengthsOfNames};
-ghost use Rattle.walk.specs.Script.{OP-PUSHDATA1};
-ghost use Rattle.text.specs.Asm.{opcodeText, spaceAt, lengthBytesAfter};
+ghost use Rattle.opcodes.specs.Opcode.{sortOf, lengthBytesAfter};
+ghost use Rattle.opcodes.specs.Pool.{lengthsOfNames};
+ghost use Rattle.opcodes.specs.Core.{OP-PUSHDATA1};
+ghost use Rattle.text.specs.Asm.{opcodeText, spaceAt};
 
 // How many bytes OP_0 has.
 const OP_0_LEN: usize = 4;
-
-// A byte, as a count.
-pub(crate) fn wide(x: u8) -> usize
-    ensures { λ r. ⌜ (r ≡ x) × (r < 256) ⌝ }
-{
-    x as usize
-}
 
 // How many length bytes follow an opcode.
 pub(crate) fn length_bytes_after(code: u8) -> usize
@@ -38,7 +31,7 @@ pub(crate) fn data_len(code: u8, stated: usize) -> usize
     ensures { λ r. ⌜ r ≡ (if ltb code OP-PUSHDATA1 then code else stated) ⌝ }
 {
     if code < opcodes::OP_PUSHDATA1 {
-        wide(code)
+        code as usize
     } else {
         stated
     }

@@ -11,7 +11,8 @@ use lib.ListN.{length}
 use Rattle.laws.proofs.Test.{lt-or-le}
 use Rattle.refusal.specs.Refusal.{limit}
 use Rattle.opcodes.specs.Opcode.{sortOf}
-use Rattle.walk.specs.Script.{OP-PUSHDATA4, fails, reads, getScriptOp, checkMinimalPush}
+use Rattle.walk.specs.Script.{fails, reads, getScriptOp, checkMinimalPush}
+use Rattle.opcodes.specs.Core.{OP-PUSHDATA4}
 use Rattle.walk.specs.Walk.{walked, notMinimal}
 use Rattle.walk.specs.Instruction.{Bytes, size, wasteful}
 use Rattle.walk.specs.Calls.{HandsOut}

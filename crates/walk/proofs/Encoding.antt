@@ -14,7 +14,7 @@ use Rattle.walk.specs.Instruction.{Instruction, opcode, push, Bytes, wri
 
 -- ---- a number in k bytes
 
-write-length : (k n : ℕ) → length (writeLE k n) ≡ k
+pub write-length : (k n : ℕ) → length (writeLE k n) ≡ k
 unfolding writeLE
 write-length zero n = refl
 write-length (suc k) n = ap suc (write-length k (n / 256))

@@ -1,12 +1,12 @@
 -- What holds of every answer of a call: an instruction stands where it was asked for, whole, and ends further on within the script.
 -- Assumes nothing.
-use mathlib.Core.Path.{_≡_, refl, sym, ap, _∙_, subst}
-use mathlib.Core.Bool.{Bool, true, false, _&&_}
-use mathlib.Core.List.{List, [], _∷_}
+use mathlib.Core.Path.{_≡_, refl, sym, subst}
+use mathlib.Core.Bool.{Bool, false, _&&_}
+use mathlib.Core.List.{List}
 use Prim.Native.Nat.{ℕ, _+_, _-_, _≤_, _<_}
 use native.Mathlib.Omega.{arith}
-use borrow.Author.Tests.{ltb-true, ltb-false, eqb-true, eqb-false}
-use lib.Dec.{ltb, leb, eqb}
+use borrow.Author.Tests.{ltb-false, eqb-true, eqb-false}
+use lib.Dec.{ltb, eqb}
 use lib.ListN.{length, getD, take, drop, length-drop}
 use lib.Seq.{length-take-le}
 use Rattle.laws.specs.Said.{Said, answers, refuses}
@@ -14,8 +14,8 @@ use Rattle.laws.proofs.Test.{by-test}
 use Rattle.refusal.specs.Refusal.{limit}
 use Rattle.opcodes.specs.Opcode.{PushForm, lengthBytes, Sort, sortOf}
 use Rattle.opcodes.specs.Opcode as sort
-use Rattle.walk.specs.Script.{ScriptOp, fails, reads, getScriptOp, assign}
-use Rattle.walk.specs.Walk.{Walked, end, opcode, push, walked, notMinimal, cutNotMinimal, judged, walkSays}
+use Rattle.walk.specs.Script.{ScriptOp, fails, reads, assign}
+use Rattle.walk.specs.Walk.{Walked, end, opcode, push, notMinimal, cutNotMinimal, judged, walkSays}
 use Rattle.walk.specs.Steps.{stated}
 use Rattle.walk.proofs.Step.{inside, push-code, number-code, plain-code, push-read, opcode-says}
 

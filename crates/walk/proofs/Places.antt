@@ -1,5 +1,5 @@
 -- The count of a walk's instructions and the places that go into the table. Assumes nothing.
-use mathlib.Core.Path.{_≡_, refl, sym, ap, _∙_}
+use mathlib.Core.Path.{_≡_, refl, ap, _∙_}
 use mathlib.Core.Bool.{Bool}
 use mathlib.Core.List.{List, [], _∷_, map}
 use Prim.Native.Nat.{ℕ, suc, _+_, _-_, _≤_, _<_}
@@ -8,20 +8,20 @@ use native.Mathlib.Omega.{arith}
 use borrow.Author.Tests.{le-leb, lt-leb}
 use lib.ListN.{length}
 use lib.Seq.{sets, sets-eq}
-use Rattle.laws.specs.Said.{Said, answers, refuses}
+use Rattle.laws.specs.Said.{Said, answers, refuses, unless}
 use Rattle.walk.specs.Walk.{Walked}
 use Rattle.walk.specs.Run.{walkFrom, items, ending}
 use Rattle.laws.specs.Buffer.{writes, after}
 use Rattle.walk.specs.Part.{bodyLen}
 use Rattle.walk.specs.Steps.{Spans}
-use Rattle.walk.specs.Places.{placeOf, placesOf, unlessRefused, countSays, positionsSay}
+use Rattle.walk.specs.Places.{placeOf, placesOf, countSays, positionsSay}
 
 length-places : (ws : List Walked) → length (map placeOf ws) ≡ length ws
 length-places [] = refl
 length-places (w ∷ ws) = ap suc (length-places ws)
 
 pub counted : (minimal : Bool) (s : List ℕ) {n : ℕ} {a : Said Walked} → (length (items (walkFrom minimal s 0)) ≡ n) × (ending (walkFrom minimal s 0) ≡ a)
-    → countSays minimal s ≡ unlessRefused a (answers n)
+    → countSays minimal s ≡ unless a (answers n)
 unfolding countSays placesOf
 counted minimal s e = rw (length-places, e .0, e .1)
 
@@ -43,8 +43,8 @@ module _ (minimal : Bool) (s old : List ℕ) where
   unfolding countSays positionsSay
   places-refused {number} {values} e = go (ending (walkFrom minimal s 0)) e
     where
-      go : (a : Said Walked) → refuses number values ≡ unlessRefused a (answers (length ps))
-          → (refuses number values ≡ unlessRefused a (writes ps (length old))) × (old ≡ after (unlessRefused a (writes ps (length old))) ps old)
+      go : (a : Said Walked) → refuses number values ≡ unless a (answers (length ps))
+          → (refuses number values ≡ unless a (writes ps (length old))) × (old ≡ after (unless a (writes ps (length old))) ps old)
       go (answers w) e = (cc, cc)
       go (refuses number values) e = (e, refl)
 
@@ -53,7 +53,7 @@ module _ (minimal : Bool) (s old : List ℕ) where
     unfolding countSays positionsSay
     counts = go (ending (walkFrom minimal s 0)) e
       where
-        go : (a : Said Walked) → answers n ≡ unlessRefused a (answers (length ps)) → (length ps ≡ n) × (unlessRefused a (writes ps (length old)) ≡ writes ps (length old))
+        go : (a : Said Walked) → answers n ≡ unless a (answers (length ps)) → (length ps ≡ n) × (unless a (writes ps (length old)) ≡ writes ps (length old))
         go (answers w) e = (cc, refl)
         go (refuses number values) e = (cc, cc)
 

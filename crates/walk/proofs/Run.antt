@@ -1,18 +1,18 @@
 -- Loops over the walk: each turn takes one answer off it. Assumes nothing.
-use mathlib.Core.Path.{_≡_, refl, sym, ap, ap₂, _∙_}
+use mathlib.Core.Path.{_≡_, refl, sym, ap, _∙_}
 use mathlib.Core.Bool.{Bool}
-use mathlib.Core.List.{List, []}
-use Prim.Native.Nat.{ℕ, zero, suc, _+_, _-_, _≤_, _<_}
+use mathlib.Core.List.{List}
+use Prim.Native.Nat.{ℕ, zero, suc, _-_, _≤_, _<_}
 use native.Mathlib.Omega.{arith}
 use lib.ListN.{length}
 use Rattle.laws.specs.Said.{Said, answers, refuses}
 use Rattle.refusal.specs.Refusal.{limit}
 use Rattle.walk.specs.Walk.{Walked, end, opcode, push, walkSays, moved, nextAt}
-use Rattle.walk.specs.Run.{Run, stop, item, continue, walkFor, walkFrom}
+use Rattle.walk.specs.Run.{Run, item, continue, walkFor, walkFrom}
 use Rattle.walk.specs.Answer.{saidFound}
 use Rattle.walk.specs.declared.Found.{Found}
 use Rattle.walk.specs.declared.Stepped.{Stepped}
-use Rattle.walk.proofs.Good.{Good, good, good-answer}
+use Rattle.walk.proofs.Good.{Good, good-answer}
 
 -- an instruction ends further on, within a script that is not too long
 pub record Moves (s : List ℕ) (p q place : ℕ) : Type 0 where

@@ -1,10 +1,9 @@
 -- Each entry is settled: two outcomes that its contract permits for one input are equal. Of a part that is handed back: its bytes and where it
 -- lies. Assumes nothing.
-use mathlib.Core.Path.{_≡_, refl, ap, ap₂, sym, _∙_}
+use mathlib.Core.Path.{_≡_, refl, ap, ap₂}
 use mathlib.Core.List.{List}
 use Prim.Native.Nat.{ℕ}
 use denote.Ref.{RefT, now, ptr}
-use Rattle.laws.specs.Said.{Said}
 use Rattle.laws.proofs.Settled.{settled, same-value}
 use Rattle.refusal.specs.declared.Counted.{Counted}
 use Rattle.refusal.proofs.Same.{same-refusal, same-count}
@@ -17,8 +16,8 @@ use Rattle.walk.specs.declared.Stepped.{Stepped}
 use Rattle.walk.proofs.Cursor.new.Reads as new
 use Rattle.walk.proofs.Cursor.next.Reads as next
 use Rattle.walk.proofs.Cursor.size.Reads as size
-use Rattle.walk.proofs.positions.Reads as positions
-use Rattle.walk.proofs.body.Reads as body
+use Rattle.walk.proofs.table.positions.Reads as positions
+use Rattle.walk.proofs.part.body.Reads as body
 
 pub same-found : (a b : Found) → saidFound a ≡ saidFound b → a ≡ b
 same-found End End e = refl

@@ -2,20 +2,20 @@
 use mathlib.Core.Path.{_≡_, refl, sym, ap, _∙_}
 use mathlib.Core.Logic.{_⊎_, inl, inr, ⊎-elim}
 use mathlib.Core.Bool.{Bool, true, false}
-use mathlib.Core.List.{List, [], _∷_}
+use mathlib.Core.List.{List}
 use Prim.Native.Nat.{ℕ, _+_, _-_, _≤_, _<_}
 use native.Mathlib.Omega.{arith}
 use lib.ListN.{length, getD}
 use Rattle.laws.specs.Said.{Said, answers, refuses}
 use Rattle.laws.proofs.Test.{lt-or-le}
 use Rattle.refusal.specs.Refusal.{limit}
-use Rattle.opcodes.specs.Opcode.{PushForm, lengthBytes, Sort, sortOf}
+use Rattle.opcodes.specs.Opcode.{PushForm, lengthBytes, Sort, sortOf, lengthBytesAfter}
 use Rattle.opcodes.specs.Opcode as sort
 use Rattle.walk.specs.Walk.{Walked, end, opcode, push, walked, walkSays, nextAt, sizeSaid}
 use Rattle.walk.specs.Run.{stop, item, walkFrom}
 use Rattle.walk.specs.Places.{placeOf}
 use Rattle.walk.specs.Instruction.{Bytes}
-use Rattle.walk.specs.Steps.{stated, tooShort, headOf}
+use Rattle.walk.specs.Steps.{stated, tooShort}
 use Rattle.walk.proofs.Step.{
   too-long,
   bad-cursor,
@@ -90,11 +90,11 @@ module _ (minimal : Bool) (s : List ℕ) (at : ℕ) (bytes : Bytes s) (size : �
   code = getD s at 0
 
   abbrev what : Sort → Walked
-  what k = walked k at code (size - (1 + headOf k))
+  what k = walked k at code (size - (1 + lengthBytesAfter k))
 
   record Stands (k : Sort) : Type 0 where
     is : walkSays minimal s at ≡ answers (what k)
-    head : 1 + headOf k ≤ size
+    head : 1 + lengthBytesAfter k ≤ size
     fits : at + size ≤ length s
 
   one-byte : 78 < code → size ≡ 1
@@ -117,7 +117,7 @@ module _ (minimal : Bool) (s : List ℕ) (at : ℕ) (bytes : Bytes s) (size : �
   pub stands-is : walkSays minimal s at ≡ answers (what (sortOf code))
   stands-is = stands (sortOf code) refl .is
 
-  pub stands-head : 1 + headOf (sortOf code) ≤ size
+  pub stands-head : 1 + lengthBytesAfter (sortOf code) ≤ size
   stands-head = stands (sortOf code) refl .head
 
   pub stands-fits : at + size ≤ length s

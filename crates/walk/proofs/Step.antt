@@ -1,13 +1,13 @@
 -- What a call says, in the order in which the code tests: the length bytes, minimality, the body. Core reads a push whole before it judges it,
 -- and difference (g) judges one that is cut, so that both orders come to the same. Assumes nothing.
-use mathlib.Core.Path.{_≡_, refl, sym, ap, ap₂, _∙_, subst}
+use mathlib.Core.Path.{_≡_, refl, sym, ap, _∙_, subst}
 use mathlib.Core.Logic.{_⊎_, inl, inr, ⊎-elim}
-use mathlib.Core.Bool.{Bool, true, false, not, _&&_, _||_, and-false}
+use mathlib.Core.Bool.{Bool, true, false, _&&_, _||_, and-false}
 use mathlib.Core.List.{List, [], _∷_}
-use Prim.Native.Nat.{ℕ, zero, suc, _+_, _-_, _≤_, _<_}
+use Prim.Native.Nat.{ℕ, _+_, _-_, _≤_, _<_}
 use native.Mathlib.Nat.{add-zero}
 use native.Mathlib.Omega.{arith}
-use borrow.Author.Tests.{lt-ltb, le-ltb, le-leb, lt-leb, eq-eqb, ne-eqb, ltb-true, ltb-false, leb-true, leb-false, eqb-true, eqb-false}
+use borrow.Author.Tests.{lt-ltb, le-ltb, le-leb, lt-leb, eq-eqb, ne-eqb, ltb-true, ltb-false, eqb-true, eqb-false}
 use lib.Dec.{ltb, leb, eqb}
 use lib.ListN.{length, getD, take, drop, length-drop}
 use lib.Seq.{length-take-le, getD-take, getD-drop}
@@ -17,7 +17,7 @@ use Rattle.laws.proofs.Test.{by-test, lt-or-le}
 use Rattle.refusal.specs.Refusal.{limit}
 use Rattle.opcodes.specs.Opcode.{PushForm, direct, pushdata1, pushdata2, pushdata4, lengthBytes, Sort, sortOf}
 use Rattle.opcodes.specs.Opcode as sort
-use Rattle.walk.specs.Script.{ScriptOp, fails, reads, readLE, assign, sized, operand, getScriptOp, checkMinimalPush}
+use Rattle.walk.specs.Script.{ScriptOp, fails, reads, assign, sized, operand, getScriptOp}
 use Rattle.walk.specs.Walk.{
   Walked,
   end,

@@ -3,7 +3,7 @@ use mathlib.Core.Bool.{Bool}
 use mathlib.Core.List.{List, map}
 use Prim.Native.Nat.{ℕ}
 use lib.ListN.{length}
-use Rattle.laws.specs.Said.{Said, answers, refuses}
+use Rattle.laws.specs.Said.{Said, answers, unless}
 use Rattle.laws.specs.Buffer.{writes}
 use Rattle.walk.specs.Walk.{Walked, end, opcode, push}
 use Rattle.walk.specs.Run.{walkFrom, items, ending}
@@ -18,13 +18,9 @@ unfoldable pub placesOf : Bool → List ℕ → List ℕ
 placesOf minimal s = map placeOf (items (walkFrom minimal s 0))
 
 -- all, with their count as the answer, or refusal 1, 2, 3 or 7
-abbrev pub unlessRefused : Said Walked → Said ℕ → Said ℕ
-unlessRefused (answers w) said = said
-unlessRefused (refuses number values) said = refuses number values
-
 unfoldable pub positionsSay : Bool → List ℕ → ℕ → Said ℕ
-positionsSay minimal s room = unlessRefused (ending (walkFrom minimal s 0)) (writes (placesOf minimal s) room)
+positionsSay minimal s room = unless (ending (walkFrom minimal s 0)) (writes (placesOf minimal s) room)
 
 -- how many there are
 unfoldable pub countSays : Bool → List ℕ → Said ℕ
-countSays minimal s = unlessRefused (ending (walkFrom minimal s 0)) (answers (length (placesOf minimal s)))
+countSays minimal s = unless (ending (walkFrom minimal s 0)) (answers (length (placesOf minimal s)))

@@ -4,7 +4,6 @@ use mathlib.Core.List.{List, [], _∷_}
 use Prim.Native.Nat.{ℕ, zero, suc, _-_}
 use lib.ListN.{length}
 use Rattle.laws.specs.Said.{Said, answers, refuses}
-use Rattle.laws.specs.Buffer.{writes}
 use Rattle.walk.specs.Walk.{Walked, end, opcode, push, walkSays, nextAt}
 
 pub data Run : Type 0 where

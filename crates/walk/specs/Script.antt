@@ -1,22 +1,11 @@
--- How Bitcoin Core 25.0 reads a script: GetScriptOp of script/script.cpp and CheckMinimalPush of script/script.cpp. Assumes nothing.
+-- How Bitcoin Core 25.0 reads a script: GetScriptOp and CheckMinimalPush of script/script.cpp. Assumes nothing.
 use mathlib.Core.Bool.{Bool, true, false, _&&_}
 use mathlib.Core.List.{List, []}
 use Prim.Native.Nat.{ℕ, zero, suc, _+_, _-_, _*_}
 use lib.Dec.{ltb, leb, eqb}
 use lib.ListN.{length, getD, take, drop}
 use Rattle.laws.specs.Choice.{if_then_else_}
-
-abbrev pub OP-0 : ℕ
-OP-0 = 0x00
-
-abbrev pub OP-PUSHDATA1 : ℕ
-OP-PUSHDATA1 = 0x4c
-
-abbrev pub OP-PUSHDATA2 : ℕ
-OP-PUSHDATA2 = 0x4d
-
-abbrev pub OP-PUSHDATA4 : ℕ
-OP-PUSHDATA4 = 0x4e
+use Rattle.opcodes.specs.Core.{OP-0, OP-PUSHDATA1, OP-PUSHDATA2, OP-PUSHDATA4}
 
 -- what GetScriptOp gives: false, or true with opcodeRet, *pvchRet and the new pc
 pub data ScriptOp : Type 0 where

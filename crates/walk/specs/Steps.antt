@@ -6,8 +6,7 @@ use Prim.Native.Nat.{ℕ, _+_, _≤_}
 use lib.Dec.{ltb, eqb}
 use lib.ListN.{length, getD}
 use Rattle.laws.specs.Choice.{if_then_else_}
-use Rattle.opcodes.specs.Opcode.{PushForm, direct, pushdata1, pushdata2, pushdata4, lengthBytes, Sort}
-use Rattle.opcodes.specs.Opcode as sort
+use Rattle.opcodes.specs.Opcode.{PushForm, direct, pushdata1, pushdata2, pushdata4}
 use Rattle.laws.specs.Said.{Said}
 use Rattle.walk.specs.Script.{readLE}
 use Rattle.walk.specs.Walk.{Walked}
@@ -41,9 +40,3 @@ pub record Spans (a : Said Walked) (size start end : ℕ) : Type 0 where
   pub first : start ≡ bodyPlace a
   pub last : end ≡ bodyPlace a + bodyLen a
   pub fits : end ≤ size
-
--- the length bytes that follow an opcode of a sort
-abbrev pub headOf : Sort → ℕ
-headOf (sort.push form) = lengthBytes form
-headOf sort.number = 0
-headOf sort.plain = 0

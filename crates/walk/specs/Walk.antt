@@ -1,15 +1,16 @@
 -- The walk of document 01, from Core's two functions. Assumes nothing.
-use mathlib.Core.Bool.{Bool, true, false, not, _&&_, _||_}
+use mathlib.Core.Bool.{Bool, false, not, _&&_, _||_}
 use mathlib.Core.List.{List, [], _∷_}
 use Prim.Native.Nat.{ℕ, _+_}
 use lib.Dec.{ltb, leb, eqb}
 use lib.ListN.{length, getD}
 use Rattle.laws.specs.Choice.{if_then_else_}
 use Rattle.laws.specs.Said.{Said, answers, refuses}
-use Rattle.refusal.specs.Refusal.{limit}
+use Rattle.refusal.specs.Refusal.{withinLimit}
 use Rattle.opcodes.specs.Opcode.{PushForm, direct, pushdata1, pushdata2, pushdata4, lengthBytes, Sort, sortOf}
 use Rattle.opcodes.specs.Opcode as sort
-use Rattle.walk.specs.Script.{OP-PUSHDATA4, ScriptOp, fails, reads, readLE, getScriptOp, checkMinimalPush}
+use Rattle.walk.specs.Script.{ScriptOp, fails, reads, readLE, getScriptOp, checkMinimalPush}
+use Rattle.opcodes.specs.Core.{OP-PUSHDATA4}
 
 -- 'The walk': end; an opcode with its place; a push with place, form, body place and body length
 pub data Walked : Type 0 where
@@ -52,10 +53,10 @@ judged minimal s place (reads code vch pc) =
 -- what a call says at a place: refusals 1 and 8 first
 unfoldable pub walkSays : Bool → List ℕ → ℕ → Said Walked
 walkSays minimal s at =
-    if ltb limit (length s) then refuses 1 []
-    else if ltb (length s) at then refuses 8 []
+    withinLimit s
+    (if ltb (length s) at then refuses 8 []
     else if eqb (length s) at then answers end
-    else judged minimal s at (getScriptOp s at)
+    else judged minimal s at (getScriptOp s at))
 
 -- 'Size': 1 for an opcode; 1 plus length bytes plus body for a push
 abbrev pub sizeOf : Walked → ℕ

@@ -1,4 +1,5 @@
 // A witness version and program, written as the script that an output holds.
+use opcodes::OP_0;
 use opcodes::OP_PUSHNUM_1;
 use refusal::Counted;
 use refusal::Refusal;
@@ -11,6 +12,9 @@ ghost use Rattle.refusal.specs.Answer.{saidCount};
 ghost use Rattle.witness.specs.Program.{versionByte, wrongV0, witnessBytes, witnessSays};
 
 const MAX_VERSION: u8 = 16;
+
+// Where the program stands in the script, behind the version and the length.
+const PROGRAM_START: usize = 2;
 
 const MIN_PROGRAM: usize = 2;
 
@@ -26,7 +30,7 @@ fn version_byte(version: u8) -> u8
     ensures { λ r. ⌜ r ≡ versionByte version ⌝ }
 {
     if version == 0 {
-        0
+        OP_0
     } else {
         OP_PUSHNUM_1 - 1 + version
     }
@@ -54,11 +58,7 @@ fn write_program(version: u8, program: &[u8], out: &mut [u8])
 {
     out[0] = version_byte(version);
     out[1] = program.len() as u8;
-    let mut i = 0;
-    while i < program.len() {
-        out[i + 2] = program[i];
-        i += 1;
-    }
+    bytes::copy(program, &mut out[PROGRAM_START..]);
 }
 
 // Writes the script of a witness program to the front of a lent buffer and answers its length. Refused, with the buffer untouched: with 12 for a
@@ -79,7 +79,7 @@ pub fn witness_program(version: u8, program: &[u8], out: &mut [u8]) -> Counted
     if is_wrong_v0(version, n) {
         return Counted::Refused(Refusal::ProgramLengthV0);
     }
-    let needed = n + 2;
+    let needed = n + PROGRAM_START;
     if out.len() < needed {
         return Counted::Refused(Refusal::NoRoom(needed));
     }

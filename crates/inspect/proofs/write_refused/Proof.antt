@@ -1,6 +1,9 @@
--- `inspect::write_refused` meets its contract: the line is the bytes that are put. Assumes nothing.
+-- `inspect::write_refused` meets its contract: the line is the bytes that are copied. Assumes nothing.
 use mathlib.Core.Path.{refl}
+use mathlib.Core.List.{List}
+use Prim.Native.Nat.{ℕ}
 use borrow.Author.Needs.{needs}
+use Rattle.laws.proofs.Stored.{copied}
 use Rattle.opcodes.specs.Text.{digits, decimal}
 use Rattle.inspect.specs.Screen.{most, line}
 use Rattle.inspect.proofs.Room.{no-room, room}
@@ -16,7 +19,9 @@ unfolding decimal digits
 returns-2 c =
     let p = c .before .before in
     let t = p .before .before .before in
-    room (line "refused" (decimal most)) (t .before .before .args .out .now) 13 refl _ (t .if1 .left) (p .put-bytes .ensures)
+    let o = t .before .before .args .out .now in
+    let l : List ℕ = line "refused" (decimal most) in
+    rw (p .copy .ensures .0) (room l o 13 refl _ (t .if1 .left) (copied l o (p .copy .ensures .1)))
 
 pub write-refused-spec : {M : Type 1} → statement M
 write-refused-spec =

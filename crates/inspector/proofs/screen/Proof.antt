@@ -8,7 +8,7 @@ use Rattle.laws.specs.Said.{answers}
 use Rattle.refusal.specs.Answer.{saidCount}
 use Rattle.inspect.specs.Screen.{screenOf, inspectSays}
 use Rattle.inspect.proofs.Short.{has-room}
-use Rattle.inspect.proofs.Within.{answered, not-refused}
+use Rattle.laws.proofs.Answered.{answered, not-refused}
 use Rattle.inspector.proofs.screen.Statement.{statement}
 use Rattle.inspector.proofs.screen.Tie as tie
 

@@ -2,7 +2,7 @@
 -- measure is what is left of the script. The inner one: the length bytes from i on are read; its measure is i. Assumes nothing.
 use mathlib.Core.Path.{_≡_, refl, sym, ap, subst}
 use mathlib.Core.List.{List, _++_}
-use Prim.Native.Nat.{ℕ, _+_, _-_, _≤_}
+use Prim.Native.Nat.{ℕ, _+_, _-_, _≤_, _<_}
 use native.Mathlib.Omega.{arith}
 use borrow.Author.Needs.{needs}
 use lib.ListN.{length, getD}
@@ -91,13 +91,20 @@ add-n c = omega (arith, c .before .before .before .before .before .before .scrip
 mul-stated : tie.Need-mul-stated Inv-loop μ-loop Inv-script μ-script
 mul-stated c = omega (arith, c .before .before .loop .inv .0 .small)
 
-add-stated : tie.Need-add-stated Inv-loop μ-loop Inv-script μ-script
-add-stated c = omega (arith, c .before .before .before .before .loop .inv .0 .small)
+-- what the length step reads is a byte
+byte : (c : tie.After-shared-slice-known3 Inv-loop μ-loop Inv-script μ-script) (j : ℕ) → getD (s (c .before .before .before .before)) j 0 < 256
+byte c j = omega (arith, c .shared-slice-known3 .given j)
+
+cast-stated : tie.Need-cast-stated Inv-loop μ-loop Inv-script μ-script
+cast-stated c = omega (arith, byte c (at (c .before .before .before .before) + c .before .before .before .loop .i))
+
+add-stated-2 : tie.Need-add-stated-2 Inv-loop μ-loop Inv-script μ-script
+add-stated-2 c = omega (arith, byte c (at (c .before .before .before .before) + c .before .before .before .loop .i), c .before .before .before .loop .inv .0 .small)
 
 loop-again : tie.Need-loop-again Inv-loop μ-loop Inv-script μ-script
 loop-again c =
-    let l = c .before .before .before .before in
-    (more (l .loop .inv .0) (bytes (l .before)) (c .before .before .before .loop-test .taken) (c .before .before .if1 .left) (c .wide .ensures .0), l .loop .inv .1)
+    let l = c .before .before .before in
+    (more (l .loop .inv .0) (bytes (l .before)) (c .before .before .loop-test .taken) (c .before .if1 .left) refl, l .loop .inv .1)
 
 add-body-2 : tie.Need-add-body-2 Inv-loop μ-loop Inv-script μ-script
 add-body-2 c = omega (arith, there c)
@@ -160,6 +167,6 @@ pub measure-spec : {M : Type 1} → statement M
 measure-spec =
     tie.close
     (tie.spec Inv-loop μ-loop Inv-script μ-script script-holds (λ c. omega arith) length-bytes-after-requires loop-holds (λ c. omega arith) add-n
-    mul-stated (λ c. omega arith) (λ c. omega arith) (λ c κs. search needs) add-stated (λ c. omega arith) (λ c. omega arith) loop-again
+    mul-stated (λ c. omega arith) (λ c. omega arith) cast-stated add-stated-2 (λ c. omega arith) (λ c. omega arith) loop-again
     (λ c. omega arith) add-body-2 (λ c κs. search needs) (λ c κs. search needs) (λ c κs. search needs) add-n-2 add-n-3 sub-if2 add-n-4
     data-text-len-requires add-n-5 add-at script-less script-again returns returns-2 returns-3)

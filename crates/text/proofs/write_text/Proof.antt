@@ -2,7 +2,7 @@
 -- measure is what is left of the script. The inner one: the length bytes from i on are read; its measure is i. Assumes nothing.
 use mathlib.Core.Path.{_≡_, refl, ap, _∙_}
 use mathlib.Core.List.{List, _++_}
-use Prim.Native.Nat.{ℕ, _+_, _-_, _≤_}
+use Prim.Native.Nat.{ℕ, _+_, _-_, _≤_, _<_}
 use native.Mathlib.Omega.{arith}
 use borrow.Author.Needs.{needs}
 use lib.ListN.{length, getD, take, drop}
@@ -162,13 +162,20 @@ put-unexpected-end-requires c κs = mark (c .before) .room
 mul-stated : tie.Need-mul-stated Inv-loop μ-loop Inv-script μ-script
 mul-stated c = omega (arith, c .before .before .loop .inv .0 .small)
 
-add-stated : tie.Need-add-stated Inv-loop μ-loop Inv-script μ-script
-add-stated c = omega (arith, c .before .before .before .before .loop .inv .0 .small)
+-- what the length step reads is a byte
+byte : (c : tie.After-shared-slice-known4 Inv-loop μ-loop Inv-script μ-script) (j : ℕ) → getD (s (c .before .before .before .before)) j 0 < 256
+byte c j = omega (arith, c .shared-slice-known4 .given j)
+
+cast-stated : tie.Need-cast-stated Inv-loop μ-loop Inv-script μ-script
+cast-stated c = omega (arith, byte c (at (c .before .before .before .before) + c .before .before .before .loop .i))
+
+add-stated-2 : tie.Need-add-stated-2 Inv-loop μ-loop Inv-script μ-script
+add-stated-2 c = omega (arith, byte c (at (c .before .before .before .before) + c .before .before .before .loop .i), c .before .before .before .loop .inv .0 .small)
 
 loop-again : tie.Need-loop-again Inv-loop μ-loop Inv-script μ-script
 loop-again c =
-    let l = c .before .before .before .before in
-    (more (l .loop .inv .0) (bytes (l .before)) (c .before .before .before .loop-test .taken) (c .before .before .if1 .left) (c .wide .ensures .0), l .loop .inv .1)
+    let l = c .before .before .before in
+    (more (l .loop .inv .0) (bytes (l .before)) (c .before .before .loop-test .taken) (c .before .if1 .left) refl, l .loop .inv .1)
 
 add-body-2 : tie.Need-add-body-2 Inv-loop μ-loop Inv-script μ-script
 add-body-2 c = omega (arith, few (c .before .before))
@@ -233,7 +240,7 @@ pub write-text-spec : {M : Type 1} → statement M
 write-text-spec =
     tie.close
     (tie.spec Inv-loop μ-loop Inv-script μ-script script-holds (λ c. omega arith) length-bytes-after-requires loop-holds (λ c. omega arith)
-    put-unexpected-end-requires mul-stated (λ c. omega arith) (λ c. omega arith) (λ c κs. search needs) add-stated (λ c. omega arith)
+    put-unexpected-end-requires mul-stated (λ c. omega arith) (λ c. omega arith) cast-stated add-stated-2 (λ c. omega arith)
     (λ c. omega arith) loop-again (λ c. omega arith) add-body-2 (λ c κs. search needs) put-space-requires put-opcode-requires sub-if2
     put-push-past-end-requires add-end (λ c. omega arith) part-put-data-start part-put-data-end put-data-requires script-less script-again same-length
     returns same-length-2 returns-2 same-length-3 returns-3)

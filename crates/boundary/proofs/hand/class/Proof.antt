@@ -6,7 +6,7 @@ use borrow.Author.Needs.{needs}
 use Rattle.laws.specs.Said.{answers}
 use Rattle.opcodes.specs.Opcode.{saidClass}
 use Rattle.boundary.specs.Handed.{sortRow}
-use Rattle.boundary.proofs.Front.{front}
+use Rattle.laws.proofs.Stored.{stored-front}
 use Rattle.boundary.proofs.Handing.{says-short, says-row}
 use Rattle.boundary.proofs.hand.class.Statement.{statement}
 use Rattle.boundary.proofs.hand.class.Tie as tie
@@ -18,17 +18,17 @@ returns c =
 returns-2 : tie.Need-returns-2
 returns-2 c =
     let k = c .before .before .before .before in
-    says-row sortRow _ _ (k .if1 .left) (ap (λ a. answers (saidClass a)) (c .before .before .answer .given .1)) (rw (c .length-bytes .ensures) (front (_ ∷ (_ ∷ [])) (k .before .before .args .values .now) (k .if1 .left)))
+    says-row sortRow _ _ (k .if1 .left) (ap (λ a. answers (saidClass a)) (c .before .before .answer .given .1)) (rw (c .length-bytes .ensures) (stored-front (_ ∷ (_ ∷ [])) (k .before .before .args .values .now) (k .if1 .left)))
 
 returns-3 : tie.Need-returns-3
 returns-3 c =
     let k = c .before .before in
-    says-row sortRow _ _ (k .if1 .left) (ap (λ a. answers (saidClass a)) (c .enum-told .given .1)) (front (_ ∷ []) (k .before .before .args .values .now) (omega (arith, k .if1 .left)))
+    says-row sortRow _ _ (k .if1 .left) (ap (λ a. answers (saidClass a)) (c .enum-told .given .1)) (stored-front (_ ∷ []) (k .before .before .args .values .now) (omega (arith, k .if1 .left)))
 
 returns-4 : tie.Need-returns-4
 returns-4 c =
     let k = c .before .before in
-    says-row sortRow _ _ (k .if1 .left) (ap (λ a. answers (saidClass a)) (c .enum-told2 .given .1)) (front (_ ∷ []) (k .before .before .args .values .now) (omega (arith, k .if1 .left)))
+    says-row sortRow _ _ (k .if1 .left) (ap (λ a. answers (saidClass a)) (c .enum-told2 .given .1)) (stored-front (_ ∷ []) (k .before .before .args .values .now) (omega (arith, k .if1 .left)))
 
 pub class-spec : {M : Type 1} → statement M
 class-spec =

@@ -6,7 +6,7 @@ use borrow.Author.Needs.{needs}
 use Rattle.laws.specs.Said.{answers}
 use Rattle.opcodes.specs.Opcode.{saidCode}
 use Rattle.boundary.specs.Handed.{one, maybe}
-use Rattle.boundary.proofs.Front.{front}
+use Rattle.laws.proofs.Stored.{stored-front}
 use Rattle.boundary.proofs.Handing.{says-short, says-row}
 use Rattle.boundary.proofs.hand.code.Statement.{statement}
 use Rattle.boundary.proofs.hand.code.Tie as tie
@@ -18,12 +18,12 @@ returns c =
 returns-2 : tie.Need-returns-2
 returns-2 c =
     let k = c .before .before .before in
-    says-row (maybe one) _ _ (k .if1 .left) (ap (λ a. answers (saidCode a)) (c .before .answer .given .1)) (front (_ ∷ (_ ∷ [])) (k .before .args .values .now) (k .if1 .left))
+    says-row (maybe one) _ _ (k .if1 .left) (ap (λ a. answers (saidCode a)) (c .before .answer .given .1)) (stored-front (_ ∷ (_ ∷ [])) (k .before .args .values .now) (k .if1 .left))
 
 returns-3 : tie.Need-returns-3
 returns-3 c =
     let k = c .before .before in
-    says-row (maybe one) _ _ (k .if1 .left) (ap (λ a. answers (saidCode a)) (c .enum-told .given .1)) (front (_ ∷ []) (k .before .args .values .now) (omega (arith, k .if1 .left)))
+    says-row (maybe one) _ _ (k .if1 .left) (ap (λ a. answers (saidCode a)) (c .enum-told .given .1)) (stored-front (_ ∷ []) (k .before .args .values .now) (omega (arith, k .if1 .left)))
 
 pub code-spec : {M : Type 1} → statement M
 code-spec =

@@ -5,7 +5,7 @@ use native.Mathlib.Omega.{arith}
 use borrow.Author.Needs.{needs}
 use Rattle.counts.specs.Answer.{saidDust}
 use Rattle.boundary.specs.Handed.{one}
-use Rattle.boundary.proofs.Front.{front}
+use Rattle.laws.proofs.Stored.{stored-front}
 use Rattle.boundary.proofs.Handing.{says-short, says-row, says-refused}
 use Rattle.boundary.proofs.hand.dust.Statement.{statement}
 use Rattle.boundary.proofs.hand.dust.Tie as tie
@@ -17,7 +17,7 @@ returns c =
 returns-2 : tie.Need-returns-2
 returns-2 c =
     let k = c .before .before .before in
-    says-row one _ _ (k .if1 .left) (ap saidDust (c .before .answer .given .1)) (front (_ ∷ []) (k .before .before .args .values .now) (k .if1 .left))
+    says-row one _ _ (k .if1 .left) (ap saidDust (c .before .answer .given .1)) (stored-front (_ ∷ []) (k .before .before .args .values .now) (k .if1 .left))
 
 returns-3 : tie.Need-returns-3
 returns-3 c =

@@ -5,8 +5,7 @@ use native.Mathlib.Omega.{arith}
 use borrow.Author.Needs.{needs}
 use Rattle.refusal.specs.Answer.{saidJudged}
 use Rattle.boundary.specs.Handed.{yes}
-use Rattle.boundary.proofs.Front.{front-row}
-use Rattle.boundary.proofs.Handing.{says-short, says-row, says-refused}
+use Rattle.boundary.proofs.Handing.{front-row, says-short, says-row, says-refused}
 use Rattle.boundary.proofs.hand.judged.Statement.{statement}
 use Rattle.boundary.proofs.hand.judged.Tie as tie
 

@@ -5,8 +5,7 @@ use native.Mathlib.Omega.{arith}
 use borrow.Author.Needs.{needs}
 use Rattle.templates.specs.Answer.{saidKind}
 use Rattle.boundary.specs.Handed.{kindRow}
-use Rattle.boundary.proofs.Front.{front-row}
-use Rattle.boundary.proofs.Handing.{says-short, says-row, says-refused}
+use Rattle.boundary.proofs.Handing.{front-row, says-short, says-row, says-refused}
 use Rattle.boundary.proofs.hand.kind.Statement.{statement}
 use Rattle.boundary.proofs.hand.kind.Tie as tie
 

@@ -5,7 +5,7 @@ use borrow.Author.Needs.{needs}
 use mir.Syntax.{w64}
 use mir.Facts.{toZ-ofZ}
 use Rattle.numbers.specs.Answer.{saidNumber}
-use Rattle.boundary.proofs.Front.{front}
+use Rattle.laws.proofs.Stored.{stored-front}
 use Rattle.boundary.proofs.Handing.{reads-short, reads-value, reads-refused}
 use Rattle.boundary.proofs.hand.number.Statement.{statement}
 use Rattle.boundary.proofs.hand.number.Tie as tie
@@ -18,7 +18,7 @@ returns-2 : tie.Need-returns-2
 returns-2 c =
     let k = c .before .before .before in
     let s = k .before in
-    reads-value _ _ (k .if1 .left) (ap saidNumber (c .before .answer .given .1)) (rw (toZ-ofZ {w = w64} (record { sfits = c .known-told .given .0 .1 })) (front (_ ∷ []) (s .args .values .now) (k .if1 .left)))
+    reads-value _ _ (k .if1 .left) (ap saidNumber (c .before .answer .given .1)) (rw (toZ-ofZ {w = w64} (record { sfits = c .known-told .given .0 .1 })) (stored-front (_ ∷ []) (s .args .values .now) (k .if1 .left)))
 
 returns-3 : tie.Need-returns-3
 returns-3 c =

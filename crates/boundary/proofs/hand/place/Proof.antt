@@ -6,7 +6,7 @@ use borrow.Author.Needs.{needs}
 use lib.ListN.{length-set}
 use Rattle.templates.specs.Answer.{saidPlace}
 use Rattle.boundary.specs.Handed.{maybe, twoOf}
-use Rattle.boundary.proofs.Front.{front}
+use Rattle.laws.proofs.Stored.{stored-front}
 use Rattle.boundary.proofs.Handing.{says-short, says-row, says-refused}
 use Rattle.boundary.proofs.hand.place.Statement.{statement}
 use Rattle.boundary.proofs.hand.place.Tie as tie
@@ -21,12 +21,12 @@ slice-write-values-2 c = omega (arith, length-set (c .before .before .before .be
 returns-2 : tie.Need-returns-2
 returns-2 c =
     let k = c .before .before .before in
-    says-row (maybe twoOf) _ _ (k .if1 .left) (ap saidPlace (c .before .answer .given .1)) (front (_ ∷ (_ ∷ (_ ∷ []))) (k .before .before .args .values .now) (k .if1 .left))
+    says-row (maybe twoOf) _ _ (k .if1 .left) (ap saidPlace (c .before .answer .given .1)) (stored-front (_ ∷ (_ ∷ (_ ∷ []))) (k .before .before .args .values .now) (k .if1 .left))
 
 returns-3 : tie.Need-returns-3
 returns-3 c =
     let k = c .before .before in
-    says-row (maybe twoOf) _ _ (k .if1 .left) (ap saidPlace (c .enum-told .given .1)) (front (_ ∷ []) (k .before .before .args .values .now) (omega (arith, k .if1 .left)))
+    says-row (maybe twoOf) _ _ (k .if1 .left) (ap saidPlace (c .enum-told .given .1)) (stored-front (_ ∷ []) (k .before .before .args .values .now) (omega (arith, k .if1 .left)))
 
 returns-4 : tie.Need-returns-4
 returns-4 c =

@@ -2,7 +2,7 @@
 use mathlib.Core.Path.{sym, ap, _∙_}
 use borrow.Author.Needs.{needs}
 use lib.Seq.{sets}
-use Rattle.boundary.specs.Steps.{saidValue}
+use Rattle.refusal.specs.Answer.{saidValue}
 use Rattle.boundary.proofs.hand.refusal.Statement.{statement}
 use Rattle.boundary.proofs.hand.refusal.Tie as tie
 
@@ -10,14 +10,14 @@ returns : tie.Need-returns
 returns c =
     let s = c .before .before .before .before .before .before in (
       c .before .before .before .before .number .ensures,
-      ap (sets (s .args .values .now) (s .args .at)) (sym (ap saidValue (c .before .value .given .1)) ∙ c .before .before .before .value-of .ensures),
+      ap (sets (s .args .values .now) (s .args .at)) (sym (ap saidValue (c .before .value2 .given .1)) ∙ c .before .before .before .value .ensures),
     )
 
 returns-2 : tie.Need-returns-2
 returns-2 c =
     let s = c .before .before .before .before .before in (
       c .before .before .before .number .ensures,
-      ap (sets (s .args .values .now) (s .args .at)) (sym (ap saidValue (c .enum-told .given .1)) ∙ c .before .before .value-of .ensures),
+      ap (sets (s .args .values .now) (s .args .at)) (sym (ap saidValue (c .enum-told .given .1)) ∙ c .before .before .value .ensures),
     )
 
 pub refusal-spec : {M : Type 1} → statement M

@@ -1,7 +1,7 @@
 -- `boundary::hand::two` meets its contract. Assumes nothing.
 use mathlib.Core.List.{[], _∷_}
 use borrow.Author.Needs.{needs}
-use Rattle.boundary.proofs.Front.{front}
+use Rattle.laws.proofs.Stored.{stored-front}
 use Rattle.boundary.proofs.Handing.{gives-short, gives-row}
 use Rattle.boundary.proofs.hand.two.Statement.{statement}
 use Rattle.boundary.proofs.hand.two.Tie as tie
@@ -12,7 +12,7 @@ returns c =
 
 returns-2 : tie.Need-returns-2
 returns-2 c =
-    gives-row _ _ (c .if1 .left) (front (_ ∷ (_ ∷ [])) (c .before .args .values .now) (c .if1 .left))
+    gives-row _ _ (c .if1 .left) (stored-front (_ ∷ (_ ∷ [])) (c .before .args .values .now) (c .if1 .left))
 
 pub two-spec : {M : Type 1} → statement M
 two-spec =

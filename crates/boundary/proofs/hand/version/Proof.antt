@@ -5,7 +5,7 @@ use native.Mathlib.Omega.{arith}
 use borrow.Author.Needs.{needs}
 use Rattle.templates.specs.Answer.{saidVersion}
 use Rattle.boundary.specs.Handed.{one, maybe}
-use Rattle.boundary.proofs.Front.{front}
+use Rattle.laws.proofs.Stored.{stored-front}
 use Rattle.boundary.proofs.Handing.{says-short, says-row, says-refused}
 use Rattle.boundary.proofs.hand.version.Statement.{statement}
 use Rattle.boundary.proofs.hand.version.Tie as tie
@@ -17,12 +17,12 @@ returns c =
 returns-2 : tie.Need-returns-2
 returns-2 c =
     let k = c .before .before .before in
-    says-row (maybe one) _ _ (k .if1 .left) (ap saidVersion (c .before .answer .given .1)) (front (_ ∷ (_ ∷ [])) (k .before .before .args .values .now) (k .if1 .left))
+    says-row (maybe one) _ _ (k .if1 .left) (ap saidVersion (c .before .answer .given .1)) (stored-front (_ ∷ (_ ∷ [])) (k .before .before .args .values .now) (k .if1 .left))
 
 returns-3 : tie.Need-returns-3
 returns-3 c =
     let k = c .before .before in
-    says-row (maybe one) _ _ (k .if1 .left) (ap saidVersion (c .enum-told .given .1)) (front (_ ∷ []) (k .before .before .args .values .now) (omega (arith, k .if1 .left)))
+    says-row (maybe one) _ _ (k .if1 .left) (ap saidVersion (c .enum-told .given .1)) (stored-front (_ ∷ []) (k .before .before .args .values .now) (omega (arith, k .if1 .left)))
 
 returns-4 : tie.Need-returns-4
 returns-4 c =

@@ -8,9 +8,8 @@ use borrow.Author.Needs.{needs}
 use lib.ListN.{length, getD}
 use lib.Seq.{sets}
 use Rattle.refusal.specs.Refusal.{limit}
-use Rattle.opcodes.specs.Opcode.{sortOf}
+use Rattle.opcodes.specs.Opcode.{sortOf, lengthBytesAfter}
 use Rattle.walk.specs.Walk.{walked, walkSays, nextAt, sizeSaid}
-use Rattle.walk.specs.Steps.{headOf}
 use Rattle.walk.proofs.Sized.{within-limit, inside-script, stands-is, stands-head, stands-fits, stands-next}
 use Rattle.boundary.specs.Handed.{handed, steps, walkedRow, minimalOf}
 use Rattle.boundary.proofs.Handing.{steps-short, steps-row, steps-as}
@@ -46,7 +45,7 @@ module _ (c : tie.Else2) where
   inside : at < length script
   inside = inside-script minimal script at bytes (z .size .result) sized some
 
-  head : 1 + headOf (sortOf (getD script at 0)) ≤ z .size .result
+  head : 1 + lengthBytesAfter (sortOf (getD script at 0)) ≤ z .size .result
   head = stands-head minimal script at bytes (z .size .result) sized some
 
   ends : at + z .size .result ≤ limit
@@ -54,7 +53,7 @@ module _ (c : tie.Else2) where
       omega (arith, within-limit minimal script at bytes (z .size .result) sized some, stands-fits minimal script at bytes (z .size .result) sized some)
 
   abbrev stood : List ℕ
-  stood = walkedRow (walked (sortOf (getD script at 0)) at (getD script at 0) (z .size .result - (1 + headOf (sortOf (getD script at 0)))))
+  stood = walkedRow (walked (sortOf (getD script at 0)) at (getD script at 0) (z .size .result - (1 + lengthBytesAfter (sortOf (getD script at 0)))))
 
   row : (r : ℕ) (new old : List ℕ) → 6 ≤ length old → r ≡ 0
       → new ≡ sets old 0 ((at + z .size .result) ∷ stood)

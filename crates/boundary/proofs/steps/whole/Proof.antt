@@ -2,9 +2,8 @@
 use mathlib.Core.Path.{_≡_, refl, sym, ap, _∙_}
 use native.Mathlib.Omega.{arith}
 use borrow.Author.Needs.{needs}
-use Rattle.opcodes.specs.Opcode.{saidForm, saidClass, sortOf}
+use Rattle.opcodes.specs.Opcode.{saidForm, saidClass, sortOf, lengthBytesAfter}
 use Rattle.opcodes.specs.Opcode as sort
-use Rattle.walk.specs.Steps.{headOf}
 use Rattle.boundary.proofs.steps.whole.Statement.{statement}
 use Rattle.boundary.proofs.steps.whole.Tie as tie
 
@@ -16,8 +15,8 @@ module _ (c : tie.After-length-bytes) where
   sort-is : sortOf (start .args .code) ≡ sort.push (saidForm (c .before .before .class .given .0 .0))
   sort-is = sym (c .before .before .before .before .classify .ensures) ∙ ap saidClass (c .before .before .class .given .1)
 
-  counted : c .length-bytes .result ≡ headOf (sortOf (start .args .code))
-  counted = c .length-bytes .ensures ∙ sym (ap headOf sort-is)
+  counted : c .length-bytes .result ≡ lengthBytesAfter (sortOf (start .args .code))
+  counted = c .length-bytes .ensures ∙ sym (ap lengthBytesAfter sort-is)
 
 add-put-two-2 : tie.Need-add-put-two-2
 add-put-two-2 c =

@@ -2,7 +2,7 @@
 use mathlib.Core.Path.{sym, ap, _∙_}
 use borrow.Author.Needs.{needs}
 use Rattle.refusal.specs.Answer.{saidCount}
-use Rattle.inspect.proofs.Within.{answered, not-refused}
+use Rattle.laws.proofs.Answered.{answered, not-refused}
 use Rattle.inspect.proofs.facts.count_in.Statement.{statement}
 use Rattle.inspect.proofs.facts.count_in.Tie as tie
 

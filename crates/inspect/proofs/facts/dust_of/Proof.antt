@@ -2,7 +2,8 @@
 use mathlib.Core.Path.{sym, ap, _∙_}
 use borrow.Author.Needs.{needs}
 use Rattle.counts.specs.Answer.{saidDust}
-use Rattle.inspect.proofs.Within.{answered, not-refused, dusted}
+use Rattle.laws.proofs.Answered.{answered, not-refused}
+use Rattle.inspect.proofs.Within.{dusted}
 use Rattle.inspect.proofs.facts.dust_of.Statement.{statement}
 use Rattle.inspect.proofs.facts.dust_of.Tie as tie
 

@@ -4,6 +4,7 @@ use native.Mathlib.Omega.{arith}
 use borrow.Author.Needs.{needs}
 use lib.ListN.{length, take}
 use lib.Seq.{length-take-le}
+use Rattle.laws.proofs.Stored.{copied}
 use Rattle.text.specs.Asm.{textOf}
 use Rattle.inspect.proofs.Room.{both}
 use Rattle.inspect.proofs.put.put_screen.Statement.{statement}
@@ -13,27 +14,27 @@ use Rattle.inspect.proofs.put.put_screen.Tie as tie
 head-length : (s : tie.Start) → length (take (s .args .head .len) (s .args .head .bytes)) ≡ s .args .head .len
 head-length s = length-take-le (s .args .head .len) (s .args .head .bytes) (omega (arith, s .pre))
 
-slice-aggregate-put-bytes : tie.Need-slice-aggregate-put-bytes
-slice-aggregate-put-bytes c = sym (head-length (c .before .before .before .before))
+slice-aggregate-copy : tie.Need-slice-aggregate-copy
+slice-aggregate-copy c = sym (head-length (c .before .before .before .before))
 
-put-bytes-requires : tie.Need-put-bytes-requires
-put-bytes-requires c κs = let s = c .before .before .before .before .before in omega (arith, head-length s, s .pre)
+copy-requires : tie.Need-copy-requires
+copy-requires c κs = let s = c .before .before .before .before .before in omega (arith, head-length s, s .pre)
 
 returns : tie.Need-returns
 returns c =
     let t = c .before .before in
     let p = t .before .before .before .before in
     let s = p .before .before .before .before .before .before in
-    both (take (s .args .head .len) (s .args .head .bytes)) (textOf (s .args .script .now)) (s .args .out .now) (s .args .head .len) (head-length s) _ _ (p .put-bytes .ensures)
-    (t .put-text .ensures)
+    let shown = take (s .args .head .len) (s .args .head .bytes) in
+    both shown (textOf (s .args .script .now)) (s .args .out .now) (s .args .head .len) (head-length s) _ _ (copied shown (s .args .out .now) (p .copy .ensures .1)) (t .put-text .ensures)
 
 pub put-screen-spec : {M : Type 1} → statement M
 put-screen-spec =
     tie.close
     (tie.spec
     (λ c. search needs)
-    slice-aggregate-put-bytes
-    put-bytes-requires
+    slice-aggregate-copy
+    copy-requires
     (λ c. search needs)
     (λ c. search needs)
     (λ c. search needs)

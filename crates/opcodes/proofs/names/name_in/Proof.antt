@@ -8,7 +8,7 @@ use native.Mathlib.Omega.{arith}
 use lib.ListN.{length, take, drop, length-drop, drop-of-length-le}
 use lib.Seq.{take-all, take-nil, drop-length}
 use borrow.Author.Needs.{needs}
-use Rattle.opcodes.specs.Names.{placed, placeIn}
+use Rattle.opcodes.specs.Pool.{placed, placeIn}
 use Rattle.opcodes.proofs.names.name_in.Statement.{statement}
 use Rattle.opcodes.proofs.names.name_in.Tie as tie
 

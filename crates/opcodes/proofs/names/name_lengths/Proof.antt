@@ -1,7 +1,8 @@
 -- `opcodes::names::name_lengths` meets its contract: the constant is what the definition computes. Assumes nothing.
 use mathlib.Core.Path.{refl}
 use Rattle.opcodes.specs.Text.{digits, decimal}
-use Rattle.opcodes.specs.Names.{lengthsOfNames, nameOf}
+use Rattle.opcodes.specs.Names.{nameOf}
+use Rattle.opcodes.specs.Pool.{lengthsOfNames}
 use Rattle.opcodes.proofs.names.name_lengths.Statement.{statement}
 use Rattle.opcodes.proofs.names.name_lengths.Tie as tie
 

@@ -1,7 +1,8 @@
 -- `opcodes::names::name_pool` meets its contract: the constant is what the definition computes. Assumes nothing.
 use mathlib.Core.Path.{refl}
 use Rattle.opcodes.specs.Text.{digits, decimal}
-use Rattle.opcodes.specs.Names.{poolOfNames, namesFrom, nameOf}
+use Rattle.opcodes.specs.Names.{nameOf}
+use Rattle.opcodes.specs.Pool.{poolOfNames, namesFrom}
 use Rattle.opcodes.proofs.names.name_pool.Statement.{statement}
 use Rattle.opcodes.proofs.names.name_pool.Tie as tie
 

@@ -1,7 +1,8 @@
 -- `opcodes::names::name_starts` meets its contract: the constant is what the definition computes. Assumes nothing.
 use mathlib.Core.Path.{refl}
 use Rattle.opcodes.specs.Text.{digits, decimal}
-use Rattle.opcodes.specs.Names.{startsOfNames, namesFrom, nameOf}
+use Rattle.opcodes.specs.Names.{nameOf}
+use Rattle.opcodes.specs.Pool.{startsOfNames, namesFrom}
 use Rattle.opcodes.proofs.names.name_starts.Statement.{statement}
 use Rattle.opcodes.proofs.names.name_starts.Tie as tie
 

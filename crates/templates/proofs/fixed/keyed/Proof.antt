@@ -11,16 +11,16 @@ use Rattle.templates.proofs.fixed.keyed.Tie as tie
 returns : tie.Need-returns
 unfolding isKeyOf
 returns c =
-    let a = c .before .before .before .before .before .args in
-    rw (c .before .before .before .wide .ensures, eq-eqb (length (a .s .now)) (a .size + 2) (omega arith))
+    let a = c .before .before .before .args in
+    rw (eq-eqb (length (a .s .now)) (a .size + 2) (omega arith))
 
 returns-2 : tie.Need-returns-2
 unfolding isKeyOf
 returns-2 c =
-    let a = c .before .before .before .args in
+    let a = c .before .args in
     rw (ne-eqb (length (a .s .now)) (a .size + 2) (omega arith))
 
 pub keyed-spec : {M : Type 1} → statement M
 keyed-spec =
     tie.close
-    (tie.spec (λ c κs. search needs) (λ c. search needs) (λ c. search needs) (λ c. search needs) (λ c. search needs) returns returns-2)
+    (tie.spec (λ c. search needs) (λ c. search needs) (λ c. search needs) (λ c. search needs) returns returns-2)

@@ -23,4 +23,4 @@ returns-3 c = other-length _ _ _ (omega arith)
 pub program-spec : {M : Type 1} → statement M
 program-spec =
     tie.close
-    (tie.spec (λ c κs. search needs) (λ c. search needs) (λ c κs. search needs) (λ c. search needs) (λ c. search needs) returns returns-2 returns-3)
+    (tie.spec (λ c. search needs) (λ c κs. search needs) (λ c. search needs) (λ c. search needs) returns returns-2 returns-3)

@@ -1,49 +1,40 @@
--- `inspect::head::Head::add` meets its contract. The loop's invariant: the first i bytes of the piece stand behind what was shown before. The measure is
--- what is left of the piece. Assumes nothing.
-use mathlib.Core.Path.{_≡_}
-use Prim.Native.Nat.{_-_, _≤_}
-use native.Mathlib.Numerals.{add-one}
+-- `inspect::head::Head::add` meets its contract: the piece is copied behind what is shown. Assumes nothing.
+use mathlib.Core.Path.{_≡_, ap, _∙_}
+use mathlib.Core.List.{List, _++_}
+use Prim.Native.Nat.{ℕ, _+_, _-_, _≤_}
 use native.Mathlib.Omega.{arith}
 use borrow.Author.Needs.{needs}
-use lib.ListN.{length, length-set, length-append}
-use lib.Seq.{paste, paste-zero, paste-suc, take-paste, take-all, length-take-le}
+use borrow.Rule.Slice.PartMut.{midOf, putMid}
+use lib.ListN.{length, take, drop, length-append}
+use lib.Seq.{sets, length-sets, length-take-le, take-at}
+use Rattle.laws.proofs.Stored.{stored, copied-at}
 use Rattle.inspect.proofs.head.Head.add.Statement.{statement}
 use Rattle.inspect.proofs.head.Head.add.Tie as tie
 
-abbrev Inv-loop : tie.InvT-loop
-Inv-loop piece bytes₀ len i₀ bytes i = (bytes ≡ paste bytes₀ len piece i) × (length bytes ≡ 160) × (i ≤ length piece)
+-- a copy to the part from i on of an array of n bytes
+copied-in : (d p part : List ℕ) (n i : ℕ) → length d ≡ n → i + length p ≤ n → part ≡ take (length p) p ++ drop (length p) (midOf i (n - i) d) → putMid i (n - i) d part ≡ sets d i p
+copied-in d p part n i e h q = rw (← e) (copied-at p d i (rw e h) (rw (← e) at q))
 
-abbrev μ-loop : tie.MeasureT-loop
-μ-loop piece bytes₀ len i₀ bytes i = length piece - i
+-- what is shown then
+shown-then : (d p : List ℕ) (i : ℕ) → i + length p ≤ length d → take (i + length p) (sets d i p) ≡ take i d ++ p
+shown-then d p i h =
+    let e : length (take i d ++ p) ≡ i + length p = rw length-append (omega (arith, length-take-le i d (omega arith))) in
+    ap (take (i + length p)) (stored d i p h) ∙ take-at (take i d ++ p) _ (i + length p) e
 
-loop-holds : tie.Need-loop-holds Inv-loop μ-loop
-loop-holds c = let a = c .before in (paste-zero _ (a .args .self .len) (a .args .piece .now), a .pre .1, omega arith)
-
-loop-again : tie.Need-loop-again Inv-loop μ-loop
-loop-again c =
-    let l = c .before .before .loop in
-    let a = c .before .before .before .before in (
-      rw (add-one, l .inv .0) (paste-suc (a .args .self .bytes) (a .args .self .len) (a .args .piece .now) (l .i) 0 (omega (arith, a .pre)) (c .before .loop-test .taken)),
-      simp length-set (l .inv .1),
-      omega arith,
-    )
-
-returns : tie.Need-returns Inv-loop μ-loop
+returns : tie.Need-returns
 returns c =
-    let l = c .before .loop in
-    let a = c .before .before .before in
+    let a = c .before .before .before .before .before in
     let d = a .args .self .bytes in
     let n = a .args .self .len in
     let p = a .args .piece .now in
+    let stores = copied-in d p (c .before .copy .last .1 .0) 160 n (a .pre .1) (a .pre .0) (c .before .copy .ensures .1) in
     record {
-      shown = rw (l .inv .0, take-paste d n p (l .i) (omega (arith, a .pre)) (l .inv .2), take-all (l .i) p (c .loop-test .left));
-      size = simp length-append (omega (arith, a .pre, length-take-le n d (omega (arith, a .pre))));
-      whole = l .inv .1;
+      shown = rw (stores, c .before .copy .ensures .0) (shown-then d p n (omega (arith, a .pre)));
+      size = rw (length-append, c .before .copy .ensures .0) (omega (arith, length-take-le n d (omega (arith, a .pre))));
+      whole = rw (stores, length-sets) (a .pre .1);
     }
 
 pub add-spec : {M : Type 1} → statement M
 add-spec =
     tie.close
-    (tie.spec Inv-loop μ-loop loop-holds (λ c. search needs) (λ c. omega (arith, c .before .before .before .before .pre)) (λ c. omega
-    (arith, c .before .before .before .before .pre)) (λ c. omega arith) (λ c. omega arith) loop-again (λ c. omega
-    (arith, c .before .before .before .pre)) returns)
+    (tie.spec (λ c. search needs) (λ c. search needs) (λ c. search needs) (λ c κs. search needs) (λ c. search needs) returns)
