@@ -101,6 +101,7 @@ minimalOf mode = not (eqb mode 0)
 abbrev pub rememberedOf : ℕ → Option ℕ
 rememberedOf n = if ltb n 256 then some n else none
 
+-- and back
 abbrev pub rememberedAs : Option ℕ → ℕ
 rememberedAs none = 256
 rememberedAs (some code) = code
@@ -117,5 +118,6 @@ steps next said old = into 6 (numberOf said) (next ∷ valuesOf walkedRow said) 
 unfoldable pub advances : (cursor : List ℕ) (next : ℕ) → Said Walked → List ℕ → Handed ℕ
 advances cursor next said old = if ltb (length cursor) 1 then handed 7 old else steps next said old
 
+-- that slice after the call: moved on, unless one of the two is too short
 unfoldable pub movedTo : (next : ℕ) (cursor values : List ℕ) → List ℕ
 movedTo next cursor values = if ltb (length cursor) 1 || ltb (length values) 6 then cursor else next ∷ drop 1 cursor

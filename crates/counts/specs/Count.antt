@@ -19,6 +19,7 @@ use Rattle.opcodes.specs.Core.{
 }
 use Rattle.walk.specs.Script.{ScriptOp, fails, reads, getScriptOp}
 
+-- Core's script/script.h
 abbrev pub MAX-PUBKEYS-PER-MULTISIG : ℕ
 MAX-PUBKEYS-PER-MULTISIG = 20
 

@@ -31,6 +31,7 @@ feeSays rate size = if ltb most (rate * size) then refuses 9 [] else answers (ra
 abbrev pub dustOf : List ℕ → ℕ
 dustOf s = 3000 * dustSize s / 1000
 
+-- refusal 1, else that
 unfoldable pub dustSays : List ℕ → Said ℕ
 dustSays s = withinLimit s (answers (dustOf s))
 

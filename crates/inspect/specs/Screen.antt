@@ -53,5 +53,6 @@ linesOf s =
 unfoldable pub screenOf : List ℕ → List ℕ
 screenOf s = if ltb most (length s) then line "refused" (decimal most) else linesOf s
 
+-- the screen written to a buffer of so many bytes
 unfoldable pub inspectSays : List ℕ → ℕ → Said ℕ
 inspectSays s room = writes (screenOf s) room

@@ -8,11 +8,11 @@ use Rattle.refusal.specs.declared.Judged.{Judged}
 use Rattle.refusal.proofs.Same.{same-count, same-judged}
 use Rattle.numbers.specs.declared.Number.{Number}
 use Rattle.numbers.proofs.Same.{same-number}
-use Rattle.numbers.proofs.scriptint_len.Reads as scriptint-len
-use Rattle.numbers.proofs.write_scriptint.Reads as write-scriptint
-use Rattle.numbers.proofs.read_scriptint.Reads as read-scriptint
-use Rattle.numbers.proofs.read_scriptint_non_minimal.Reads as read-scriptint-non-minimal
-use Rattle.numbers.proofs.read_scriptbool.Reads as read-scriptbool
+use Rattle.numbers.proofs.write.scriptint_len.Reads as scriptint-len
+use Rattle.numbers.proofs.write.write_scriptint.Reads as write-scriptint
+use Rattle.numbers.proofs.read.read_scriptint.Reads as read-scriptint
+use Rattle.numbers.proofs.read.read_scriptint_non_minimal.Reads as read-scriptint-non-minimal
+use Rattle.numbers.proofs.read.read_scriptbool.Reads as read-scriptbool
 
 pub scriptint-len-settled : (κs : _) (a : _) (r t : Counted) (s u : _) → scriptint-len.Post κs a r s → scriptint-len.Post κs a t u → r ≡ t
 scriptint-len-settled κs a r t s u = settled same-count r t

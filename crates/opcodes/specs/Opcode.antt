@@ -17,12 +17,14 @@ pub data PushForm : Type 0 where
   pushdata2 : PushForm
   pushdata4 : PushForm
 
+-- 1, 2, 4 little-endian length bytes, none for a direct push
 abbrev pub lengthBytes : PushForm → ℕ
 lengthBytes direct = 0
 lengthBytes pushdata1 = 1
 lengthBytes pushdata2 = 2
 lengthBytes pushdata4 = 4
 
+-- a push of a form, a number opcode, any other opcode
 pub data Sort : Type 0 where
   push : PushForm → Sort
   number : Sort

@@ -22,6 +22,7 @@ use Rattle.refusal.specs.declared.Refusal.the-variants.{
   BadBuilder,
 }
 
+-- the column 'No.'
 abbrev pub numberOf : Refusal → ℕ
 numberOf TooLong = 1
 numberOf (NonMinimal place) = 2
@@ -37,6 +38,7 @@ numberOf ProgramLengthV0 = 11
 numberOf BadVersion = 12
 numberOf BadBuilder = 13
 
+-- what the column 'Name' has behind the name: a place, or the bytes or entries needed
 abbrev pub valuesOf : Refusal → List ℕ
 valuesOf TooLong = []
 valuesOf (NonMinimal place) = place ∷ []

@@ -1,5 +1,6 @@
 // Reads a recorded sample of the Rust crate's answers from standard input, asks Brinebutton the same, and prints for each entry how many answers
 // agree. Only a file that is whole and agrees with every answer ends in the line `.. records agree`. docs/REPLAY.md has the file's layout.
+mod entries;
 mod expect;
 mod file;
 mod lent;
@@ -10,6 +11,7 @@ mod on_opcodes;
 mod on_scripts;
 mod on_templates;
 mod on_walk;
+mod report;
 
 use builder::Builder;
 use file::Head;
@@ -81,38 +83,6 @@ fn begin(data: &[u8]) -> State {
     begun(0, DAMAGED)
 }
 
-// The entries that keep nothing for the next record.
-fn dispatch(kind: u8, arg: u64, input: &[u8], out: &mut [u8], want: &[u8]) -> usize {
-    match kind {
-        1..=8 => on_opcodes::answer(kind, file::low(arg), out, want),
-        9..=13 => on_numbers::answer(kind, arg, input, out, want),
-        14..=17 => on_walk::answer(kind, out.len(), input, want),
-        18..=33 => on_templates::answer(kind, input, out, want),
-        34..=37 => on_scripts::counted(kind, arg, input, want),
-        _ => on_scripts::written(kind, file::low(arg), input, out, want),
-    }
-}
-
-fn answered(kind: u8, arg: u64, input: &[u8], out: &mut [u8], want: &[u8]) -> usize {
-    lent::fill(b"", lent::PATTERN, out);
-    dispatch(kind, arg, input, out, want)
-}
-
-// The same with the first room bytes of the space lent.
-fn answered_in(
-    kind: u8,
-    arg: u64,
-    room: usize,
-    input: &[u8],
-    space: &mut [u8],
-    want: &[u8],
-) -> usize {
-    if room <= space.len() {
-        return answered(kind, arg, input, &mut space[..room], want);
-    }
-    expect::MISS
-}
-
 // Counts a record that was asked, and whether its answer agrees.
 fn compared(h: Head, s: State, agree: bool, counts: &mut [u64; 54]) -> State {
     let mut next = moved(s, h.next);
@@ -122,7 +92,7 @@ fn compared(h: Head, s: State, agree: bool, counts: &mut [u64; 54]) -> State {
         return next;
     }
     if s.differ == 0 {
-        first_differing(next.asked, s.at, h.kind);
+        report::first_differing(next.asked, s.at, h.kind);
     }
     next.differ = more(s.differ);
     next
@@ -133,15 +103,6 @@ fn counted(kind: u8, counts: &mut [u64; 54]) {
     if k < 54 {
         counts[k] = more(counts[k]);
     }
-}
-
-fn first_differing(record: u64, at: usize, kind: u8) {
-    show::text(b"record ");
-    show::decimal(record);
-    show::named(b"at byte", at);
-    show::text(b" differs: ");
-    names::name(kind as usize);
-    show::line_end();
 }
 
 // An entry that keeps nothing.
@@ -155,7 +116,7 @@ fn asked(
 ) -> State {
     let want = file::part(data, h.from, h.len);
     let bytes = file::part(input, 0, s.len);
-    let end = answered_in(h.kind, h.arg, h.room, bytes, space, want);
+    let end = entries::answered_in(h.kind, h.arg, h.room, bytes, space, want);
     compared(h, s, end == want.len(), counts)
 }
 
@@ -259,50 +220,15 @@ fn turn(
     }
 }
 
-fn line(k: usize, counts: &[u64; 54]) {
-    names::name(k);
-    show::text(b" ");
-    if k < 54 {
-        show::decimal(counts[k]);
-    }
-    show::line_end();
-}
-
-fn lines(counts: &[u64; 54]) {
-    for k in 1..54 {
-        line(k, counts);
-    }
-}
-
-fn damaged(at: usize) {
-    show::text(b"damaged in the record");
-    show::named(b"at byte", at);
-    show::line_end();
-}
-
-fn differing(asked: u64, differ: u64) {
-    show::decimal(differ);
-    show::text(b" of ");
-    show::decimal(asked);
-    show::text(b" records differ\n");
-}
-
-fn agreeing(asked: u64, marked: u64) {
-    show::decimal(asked);
-    show::text(b" records agree, ");
-    show::decimal(marked);
-    show::text(b" of them marked\n");
-}
-
-fn report(s: State, counts: &[u64; 54]) {
-    lines(counts);
+fn print_report(s: State, counts: &[u64; 54]) {
+    report::lines(counts);
     if s.stage != WHOLE {
-        damaged(s.at);
+        report::damaged(s.at);
     }
     if 0 < s.differ {
-        differing(s.asked, s.differ);
+        report::differing(s.asked, s.differ);
     } else if s.stage == WHOLE {
-        agreeing(s.asked, s.marked);
+        report::agreeing(s.asked, s.marked);
     }
 }
 
@@ -332,7 +258,7 @@ fn with_buffers(data: &[u8], input: &mut [u8; 4_194_305]) {
     let mut space = [0u8; 1024];
     let mut counts = [0u64; 54];
     let s = run(data, input, &mut buffer, &mut space, &mut counts);
-    report(s, &counts);
+    print_report(s, &counts);
 }
 
 fn with_input(data: &[u8]) {

@@ -44,9 +44,11 @@ fits multisig s = isMultisig s
 fits opreturn s = isOpReturn s
 fits other s = true
 
+-- in the order in which they are tried
 abbrev pub kinds : List Kind
 kinds = p2pkh ∷ p2sh ∷ p2wpkh ∷ p2wsh ∷ p2tr ∷ p2a ∷ witness ∷ p2pk ∷ multisig ∷ opreturn ∷ other ∷ []
 
+-- the first of a list whose test holds
 abbrev pub firstThatFits : List Kind → List ℕ → Kind
 firstThatFits [] s = other
 firstThatFits (k ∷ ks) s = if fits k s then k else firstThatFits ks s

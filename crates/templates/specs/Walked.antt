@@ -23,6 +23,7 @@ every f (w ∷ ws) = f w && every f ws
 
 -- ---- push only
 
+-- 'every opcode at most 0x60'; a push is none
 abbrev pub atMostOp16 : Walked → Bool
 atMostOp16 end = true
 atMostOp16 (opcode place code) = leb code OP-16
@@ -32,6 +33,7 @@ atMostOp16 (push place form body len) = true
 abbrev pub pushOnlyRun : Run → Bool
 pushOnlyRun run = unrefused (ending run) && every atMostOp16 (items run)
 
+-- .. of a script, walked from its front
 unfoldable pub isPushOnly : List ℕ → Bool
 isPushOnly s = pushOnlyRun (walkFrom false s 0)
 
@@ -41,11 +43,13 @@ isPushOnly s = pushOnlyRun (walkFrom false s 0)
 pub data Stretch : Type 0 where
   stretch : (start len : ℕ) → Stretch
 
+-- whether an instruction is a push
 abbrev pub isPush : Walked → Bool
 isPush end = false
 isPush (opcode place code) = false
 isPush (push place form body len) = true
 
+-- where its body lies
 abbrev pub bodyOf : Walked → Option Stretch
 bodyOf end = none
 bodyOf (opcode place code) = none
@@ -60,6 +64,7 @@ lastBody before (w ∷ ws) = lastBody (bodyOf w) ws
 abbrev pub redeemRun : Option Stretch → Run → Option Stretch
 redeemRun before run = if unrefused (ending run) && every isPush (items run) then lastBody before (items run) else none
 
+-- .. of a script, walked from its front; nothing for one without instructions
 unfoldable pub redeemScript : List ℕ → Option Stretch
 redeemScript s = redeemRun none (walkFrom false s 0)
 
@@ -72,23 +77,26 @@ opcodeThen f (item end rest) = false
 opcodeThen f (item (opcode place code) rest) = f code rest
 opcodeThen f (item (push place form body len) rest) = false
 
--- how many pushes the walk goes on with, and the walk after them
+-- how many pushes the walk goes on with
 abbrev pub pushes : Run → ℕ
 pushes (stop a) = 0
 pushes (item end rest) = 0
 pushes (item (opcode place code) rest) = 0
 pushes (item (push place form body len) rest) = suc (pushes rest)
 
+-- the walk after them
 abbrev pub afterPushes : Run → Run
 afterPushes (stop a) = stop a
 afterPushes (item end rest) = item end rest
 afterPushes (item (opcode place code) rest) = item (opcode place code) rest
 afterPushes (item (push place form body len) rest) = afterPushes rest
 
+-- the walk is over and met no refusal
 abbrev pub isEnd : Run → Bool
 isEnd (stop a) = unrefused a
 isEnd (item w rest) = false
 
+-- it is a number, and this holds of it
 abbrev pub numberThen : (ℕ → Bool) → Option ℕ → Bool
 numberThen f none = false
 numberThen f (some m) = f m

@@ -23,10 +23,12 @@ most pushdata4 = 0xffff_ffff
 abbrev pub Bytes : List ℕ → Type 0
 Bytes s = (i : ℕ) → getD s i 0 < 256
 
+-- an opcode byte above 78, or a body of bytes that its form can state
 abbrev pub Stands : Instruction → Type 0
 Stands (opcode code) = (78 < code) × (code < 256)
 Stands (push form body) = (length body ≤ most form) × Bytes body
 
+-- the opcode byte of a push: 0 to 75 is the length itself
 abbrev pub opcodeOf : PushForm → ℕ → ℕ
 opcodeOf direct len = len
 opcodeOf pushdata1 len = 0x4c
@@ -43,6 +45,7 @@ unfoldable pub encode : Instruction → List ℕ
 encode (opcode code) = code ∷ []
 encode (push form body) = opcodeOf form (length body) ∷ (writeLE (lengthBytes form) (length body) ++ body)
 
+-- the bytes of a list of instructions, one after the other
 unfoldable pub encodeAll : List Instruction → List ℕ
 encodeAll [] = []
 encodeAll (i ∷ is) = encode i ++ encodeAll is
@@ -52,6 +55,7 @@ abbrev pub size : Instruction → ℕ
 size (opcode code) = 1
 size (push form body) = 1 + lengthBytes form + length body
 
+-- the sizes of a list, added up
 unfoldable pub sizes : List Instruction → ℕ
 sizes [] = 0
 sizes (i ∷ is) = size i + sizes is

@@ -12,13 +12,14 @@ pub record Part (r s : RefT (List ℕ)) (b n : ℕ) : Type 0 where
   pub bytes : now r ≡ take n (drop b (now s))
   pub lies : ptr r ≡ (ptr s .0, b + ptr s .1)
 
--- a push's body; for all else the empty part at the script's front
+-- where a push's body starts; for all else the script's front
 abbrev pub bodyPlace : Said Walked → ℕ
 bodyPlace (answers end) = 0
 bodyPlace (answers (opcode place code)) = 0
 bodyPlace (answers (push place form body len)) = body
 bodyPlace (refuses number values) = 0
 
+-- how long it is; for all else empty
 abbrev pub bodyLen : Said Walked → ℕ
 bodyLen (answers end) = 0
 bodyLen (answers (opcode place code)) = 0

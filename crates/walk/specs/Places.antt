@@ -8,6 +8,7 @@ use Rattle.laws.specs.Buffer.{writes}
 use Rattle.walk.specs.Walk.{Walked, end, opcode, push}
 use Rattle.walk.specs.Run.{walkFrom, items, ending}
 
+-- where an instruction starts
 abbrev pub placeOf : Walked → ℕ
 placeOf end = 0
 placeOf (opcode place code) = place

@@ -6,6 +6,7 @@ use lib.ListN.{length}
 use Rattle.laws.specs.Said.{Said, answers, refuses}
 use Rattle.walk.specs.Walk.{Walked, end, opcode, push, walkSays, nextAt}
 
+-- an instruction and the walk after it, or the answer that ends it
 pub data Run : Type 0 where
   stop : Said Walked → Run
   item : Walked → Run → Run
@@ -26,10 +27,12 @@ walkFor (suc n) minimal s p = continue (walkSays minimal s p) (walkFor n minimal
 unfoldable pub walkFrom : Bool → List ℕ → ℕ → Run
 walkFrom minimal s p = walkFor (suc (length s - p)) minimal s p
 
+-- its instructions
 abbrev pub items : Run → List Walked
 items (stop a) = []
 items (item w r) = w ∷ items r
 
+-- the answer that ends it
 abbrev pub ending : Run → Said Walked
 ending (stop a) = a
 ending (item w r) = ending r

@@ -32,6 +32,7 @@ notMinimal code vch = leb code OP-PUSHDATA4 && not (checkMinimalPush vch code)
 unfoldable pub saysLess : ℕ → ℕ → List ℕ → ℕ → Bool
 saysLess k least s place = leb (place + 1 + k) (length s) && ltb (readLE k s (place + 1)) least
 
+-- document 01: 'less than 76, 0x100, 0x10000'
 abbrev pub cutForm : Sort → List ℕ → ℕ → Bool
 cutForm (sort.push direct) s place = false
 cutForm (sort.push pushdata1) s place = saysLess 1 76 s place
@@ -74,5 +75,6 @@ abbrev pub moved : Said Walked → List ℕ → ℕ → ℕ
 moved (answers w) s at = at + sizeOf w
 moved (refuses number values) s at = if eqb number 2 || eqb number 3 then length s else at
 
+-- .. after the call at a place
 unfoldable pub nextAt : Bool → List ℕ → ℕ → ℕ
 nextAt minimal s at = moved (walkSays minimal s at) s at

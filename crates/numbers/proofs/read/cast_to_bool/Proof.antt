@@ -1,4 +1,4 @@
--- `numbers::cast_to_bool` meets its contract. The loop's invariant: the bytes before i are 0, so those from i on decide. The measure is what
+-- `numbers::read::cast_to_bool` meets its contract. The loop's invariant: the bytes before i are 0, so those from i on decide. The measure is what
 -- is left of the length. Assumes nothing.
 use mathlib.Core.Path.{_≡_, refl, sym, _∙_}
 use Prim.Native.Nat.{_≤_, _-_}
@@ -6,8 +6,8 @@ use native.Mathlib.Omega.{arith}
 use lib.ListN.{length, drop}
 use Rattle.numbers.specs.ScriptNum.{castToBool}
 use Rattle.numbers.proofs.First.{none-left, zero-here, set-before-last, set-last}
-use Rattle.numbers.proofs.cast_to_bool.Statement.{statement}
-use Rattle.numbers.proofs.cast_to_bool.Tie as tie
+use Rattle.numbers.proofs.read.cast_to_bool.Statement.{statement}
+use Rattle.numbers.proofs.read.cast_to_bool.Tie as tie
 
 abbrev Inv-loop : tie.InvT-loop
 Inv-loop v n i₀ i = (i ≤ length v) × (castToBool v ≡ castToBool (drop i v))

@@ -1,12 +1,12 @@
--- `numbers::non_minimal` meets its contract: each test of the code is one of Core's, in Core's order. Assumes nothing.
+-- `numbers::read::non_minimal` meets its contract: each test of the code is one of Core's, in Core's order. Assumes nothing.
 use Prim.Native.Nat.{_%_}
 use native.Mathlib.Omega.{arith}
 use borrow.Author.Needs.{needs}
 use borrow.Author.Tests.{lt-ltb, le-ltb, le-leb, lt-leb, eq-eqb, ne-eqb}
 use lib.ListN.{length}
 use Rattle.numbers.specs.ScriptNum.{nonMinimal, back}
-use Rattle.numbers.proofs.non_minimal.Statement.{statement}
-use Rattle.numbers.proofs.non_minimal.Tie as tie
+use Rattle.numbers.proofs.read.non_minimal.Statement.{statement}
+use Rattle.numbers.proofs.read.non_minimal.Tie as tie
 
 returns : tie.Need-returns
 unfolding nonMinimal

@@ -1,4 +1,4 @@
--- `numbers::read_number` meets its contract, for every k and for both readers. Assumes nothing.
+-- `numbers::read::read_number` meets its contract, for every k and for both readers. Assumes nothing.
 use mathlib.Core.Path.{sym, ap, _∙_}
 use borrow.Author.Needs.{needs, sfits-of}
 use borrow.Author.Tests.{lt-ltb, le-ltb}
@@ -6,8 +6,8 @@ use mir.Syntax.{w64}
 use mir.Facts.{toZ-ofZ}
 use Rattle.laws.specs.Said.{answers}
 use Rattle.numbers.specs.ScriptNum.{scriptNum}
-use Rattle.numbers.proofs.read_number.Statement.{statement}
-use Rattle.numbers.proofs.read_number.Tie as tie
+use Rattle.numbers.proofs.read.read_number.Statement.{statement}
+use Rattle.numbers.proofs.read.read_number.Tie as tie
 
 returns : tie.Need-returns
 unfolding scriptNum

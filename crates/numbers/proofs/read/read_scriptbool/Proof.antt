@@ -1,11 +1,11 @@
--- `numbers::read_scriptbool` meets its contract. Assumes nothing.
+-- `numbers::read::read_scriptbool` meets its contract. Assumes nothing.
 use mathlib.Core.Path.{ap}
 use borrow.Author.Needs.{needs}
 use borrow.Author.Tests.{lt-ltb, le-ltb}
 use Rattle.laws.specs.Said.{answers}
 use Rattle.numbers.specs.Answer.{boolSays}
-use Rattle.numbers.proofs.read_scriptbool.Statement.{statement}
-use Rattle.numbers.proofs.read_scriptbool.Tie as tie
+use Rattle.numbers.proofs.read.read_scriptbool.Statement.{statement}
+use Rattle.numbers.proofs.read.read_scriptbool.Tie as tie
 
 returns : tie.Need-returns
 unfolding boolSays

@@ -1,7 +1,7 @@
--- `numbers::refuses_form` meets its contract. Assumes nothing.
+-- `numbers::read::refuses_form` meets its contract. Assumes nothing.
 use borrow.Author.Needs.{needs}
-use Rattle.numbers.proofs.refuses_form.Statement.{statement}
-use Rattle.numbers.proofs.refuses_form.Tie as tie
+use Rattle.numbers.proofs.read.refuses_form.Statement.{statement}
+use Rattle.numbers.proofs.read.refuses_form.Tie as tie
 
 returns : tie.Need-returns
 returns c = rw (c .before .if1 .taken) (c .non-minimal .ensures)

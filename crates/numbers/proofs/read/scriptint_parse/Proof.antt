@@ -1,4 +1,4 @@
--- `numbers::scriptint_parse` meets its contract. The loop's invariant: m is the magnitude of the bytes from i on. The measure is i.
+-- `numbers::read::scriptint_parse` meets its contract. The loop's invariant: m is the magnitude of the bytes from i on. The measure is i.
 -- Assumes nothing.
 use mathlib.Core.Path.{_≡_, sym, ap, _∙_}
 use Prim.Native.Nat.{ℕ, suc, _+_, _-_, _*_, _^_, _≤_, _<_}
@@ -8,8 +8,8 @@ use mir.Syntax.{w64}
 use mir.Facts.{toZ-ofZ}
 use borrow.Author.Needs.{sfits-of}
 use Rattle.numbers.proofs.Reading.{magnitudeOf, set-vch-is, set-vch-none, magnitude-last, magnitude-step, magnitude-fits}
-use Rattle.numbers.proofs.scriptint_parse.Statement.{statement}
-use Rattle.numbers.proofs.scriptint_parse.Tie as tie
+use Rattle.numbers.proofs.read.scriptint_parse.Statement.{statement}
+use Rattle.numbers.proofs.read.scriptint_parse.Tie as tie
 
 abbrev Inv-loop : tie.InvT-loop
 Inv-loop v n last m₀ i₀ m i = (m ≡ magnitudeOf (drop i v)) × (i < length v)

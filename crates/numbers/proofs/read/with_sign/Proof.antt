@@ -1,10 +1,10 @@
--- `numbers::with_sign` meets its contract: a magnitude below 2 ^ 63 has both signs. Assumes nothing.
+-- `numbers::read::with_sign` meets its contract: a magnitude below 2 ^ 63 has both signs. Assumes nothing.
 use borrow.Author.Needs.{needs}
 use mir.Syntax.{w64}
 use mir.Facts.{toZ-pos}
 use Rattle.numbers.proofs.Negated.{neg-of-fits, neg-of-held}
-use Rattle.numbers.proofs.with_sign.Statement.{statement}
-use Rattle.numbers.proofs.with_sign.Tie as tie
+use Rattle.numbers.proofs.read.with_sign.Statement.{statement}
+use Rattle.numbers.proofs.read.with_sign.Tie as tie
 
 sub-result : tie.Need-sub-result
 sub-result c = neg-of-fits (c .before .pre)

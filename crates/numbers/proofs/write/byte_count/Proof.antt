@@ -1,12 +1,12 @@
--- `numbers::byte_count` meets its contract: the leading zeros give the magnitude's bits, and these the bytes. Assumes nothing.
+-- `numbers::write::byte_count` meets its contract: the leading zeros give the magnitude's bits, and these the bytes. Assumes nothing.
 use mathlib.Core.Path.{sym, ap, _∙_}
 use native.Mathlib.Omega.{arith}
 use borrow.Author.Needs.{needs}
 use lib.Count.{leading-le}
 use lib.ListN.{length}
 use Rattle.numbers.proofs.Written.{serialize-count, serialize-empty}
-use Rattle.numbers.proofs.byte_count.Statement.{statement}
-use Rattle.numbers.proofs.byte_count.Tie as tie
+use Rattle.numbers.proofs.write.byte_count.Statement.{statement}
+use Rattle.numbers.proofs.write.byte_count.Tie as tie
 
 returns : tie.Need-returns
 returns c n e = sym (ap length (serialize-empty n (e ∙ c .if1 .taken)))

@@ -1,8 +1,8 @@
--- `numbers::magnitude` meets its contract: the number that has no negative is shut out. Assumes nothing.
+-- `numbers::write::magnitude` meets its contract: the number that has no negative is shut out. Assumes nothing.
 use borrow.Author.Needs.{needs}
 use Rattle.numbers.proofs.Negated.{minus-fits, cast-neg, cast-pos, abs-minus}
-use Rattle.numbers.proofs.magnitude.Statement.{statement}
-use Rattle.numbers.proofs.magnitude.Tie as tie
+use Rattle.numbers.proofs.write.magnitude.Statement.{statement}
+use Rattle.numbers.proofs.write.magnitude.Tie as tie
 
 sub-result : tie.Need-sub-result
 sub-result c = minus-fits (c .before .fits .n) (c .before .pre)

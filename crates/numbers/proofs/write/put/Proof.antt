@@ -1,4 +1,4 @@
--- `numbers::put` meets its contract. The loop's invariant: the bytes before i are written, and `rest` stands for those from i on.
+-- `numbers::write::put` meets its contract. The loop's invariant: the bytes before i are written, and `rest` stands for those from i on.
 -- The measure is `rest`. Assumes nothing.
 use mathlib.Core.Path.{_≡_, refl, sym, _∙_}
 use Prim.Native.Nat.{_+_}
@@ -10,8 +10,8 @@ use Rattle.laws.proofs.Filled.{filled, fill-put, fill-done}
 use Rattle.numbers.specs.ScriptNum.{lowBytes, closeSign}
 use Rattle.numbers.proofs.Coded.{bit, bit-is, closed-coded}
 use Rattle.numbers.proofs.Left.{Left, left, turn, end}
-use Rattle.numbers.proofs.put.Statement.{statement}
-use Rattle.numbers.proofs.put.Tie as tie
+use Rattle.numbers.proofs.write.put.Statement.{statement}
+use Rattle.numbers.proofs.write.put.Tie as tie
 
 abbrev Inv-loop : tie.InvT-loop
 Inv-loop m negative out₀ rest₀ i₀ out rest i =

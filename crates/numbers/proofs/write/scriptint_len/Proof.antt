@@ -1,4 +1,4 @@
--- `numbers::scriptint_len` meets its contract. Assumes nothing.
+-- `numbers::write::scriptint_len` meets its contract. Assumes nothing.
 use mathlib.Core.Path.{sym, ap, _∙_}
 use borrow.Author.Needs.{needs}
 use lib.IntN.{natAbs}
@@ -6,8 +6,8 @@ use mir.Facts.{toZ-ofZ}
 use Rattle.laws.specs.Said.{answers}
 use Rattle.numbers.specs.Answer.{lenSays}
 use Rattle.numbers.proofs.Negated.{is-least, not-least}
-use Rattle.numbers.proofs.scriptint_len.Statement.{statement}
-use Rattle.numbers.proofs.scriptint_len.Tie as tie
+use Rattle.numbers.proofs.write.scriptint_len.Statement.{statement}
+use Rattle.numbers.proofs.write.scriptint_len.Tie as tie
 
 returns : tie.Need-returns
 unfolding lenSays

@@ -1,4 +1,4 @@
--- `numbers::write_scriptint` meets its contract. Assumes nothing.
+-- `numbers::write::write_scriptint` meets its contract. Assumes nothing.
 use mathlib.Core.Path.{_≡_, sym, ap, _∙_}
 use mathlib.Core.Bool.{false}
 use mathlib.Core.List.{List}
@@ -15,8 +15,8 @@ use Rattle.numbers.specs.ScriptNum.{lowBytes, closeSign, serialize}
 use Rattle.numbers.specs.Answer.{isLeast, lenSays}
 use Rattle.numbers.proofs.Written.{serialize-closes, serialize-some}
 use Rattle.numbers.proofs.Outcome.{counted, least, out-of-range, no-room, room, no-byte}
-use Rattle.numbers.proofs.write_scriptint.Statement.{statement}
-use Rattle.numbers.proofs.write_scriptint.Tie as tie
+use Rattle.numbers.proofs.write.write_scriptint.Statement.{statement}
+use Rattle.numbers.proofs.write.write_scriptint.Tie as tie
 
 -- where the count is known
 module _ (s : tie.After-count) where

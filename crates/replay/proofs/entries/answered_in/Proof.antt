@@ -1,9 +1,9 @@
--- `replay::answered_in` is safe: the part that is lent has as many bytes as there is room. Assumes nothing.
+-- `replay::entries::answered_in` is safe: the part that is lent has as many bytes as there is room. Assumes nothing.
 use mathlib.Core.Path.{sym}
 use lib.Seq.{length-take-le}
 use borrow.Author.Needs.{needs}
-use Rattle.replay.proofs.answered_in.Statement.{statement}
-use Rattle.replay.proofs.answered_in.Tie as tie
+use Rattle.replay.proofs.entries.answered_in.Statement.{statement}
+use Rattle.replay.proofs.entries.answered_in.Tie as tie
 
 slice-aggregate-answered : tie.Need-slice-aggregate-answered
 slice-aggregate-answered c =

@@ -1,8 +1,8 @@
--- `replay::lines` is safe and ends: k stays within the entries. Assumes nothing.
+-- `replay::report::lines` is safe and ends: k stays within the entries. Assumes nothing.
 use Prim.Native.Nat.{_≤_, _-_}
 use borrow.Author.Needs.{needs}
-use Rattle.replay.proofs.lines.Statement.{statement}
-use Rattle.replay.proofs.lines.Tie as tie
+use Rattle.replay.proofs.report.lines.Statement.{statement}
+use Rattle.replay.proofs.report.lines.Tie as tie
 
 abbrev Inv-loop : tie.InvT-loop
 Inv-loop counts k₀ k = k ≤ 54
