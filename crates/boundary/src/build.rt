@@ -19,6 +19,9 @@ ghost use Rattle.builder.specs.Lent.{calls, shown};
 ghost use Rattle.builder.specs.Answer.{saidBuilt};
 ghost use Rattle.boundary.specs.Handed.{handed, says, gives, builds, unlessShort, one, rememberedOf, rememberedAs};
 
+// How many values a call leaves at most: the state for the next call, and a refusal's value.
+const STATE_VALUES: usize = 3;
+
 // What is remembered where no opcode is.
 const NOTHING: u32 = 256;
 
@@ -52,7 +55,7 @@ fn number_of(remembered: Code) -> usize
 fn built(answer: Built, values: &mut [u64]) -> u32
     ensures { λ r. ⌜ ((buffer : List ℕ) → handed r (now (values .exit)) ≡ builds (saidBuilt answer buffer) (now (values .entry))) ⌝ }
 {
-    if values.len() < 3 {
+    if values.len() < STATE_VALUES {
         return NO_ROOM;
     }
     let builder = answer.builder;
@@ -95,7 +98,7 @@ pub extern "C" fn bb_builder_push_opcode(
 ) -> u32
     ensures { λ r. ⌜ (handed r (now (values .exit)) ≡ builds (calls (pushOpcode code) used (rememberedOf remembered) (now (buffer .entry))) (now (values .entry))) × (now (buffer .exit) ≡ unlessShort 3 (length (now (values .entry))) ((calls (pushOpcode code) used (rememberedOf remembered) (now (buffer .entry))) .buffer) (now (buffer .entry))) ⌝ }
 {
-    if values.len() < 3 {
+    if values.len() < STATE_VALUES {
         return NO_ROOM;
     }
     built(
@@ -115,7 +118,7 @@ pub extern "C" fn bb_builder_push_slice(
 ) -> u32
     ensures { λ r. ⌜ (handed r (now (values .exit)) ≡ builds (calls (pushSlice (now (body .entry))) used (rememberedOf remembered) (now (buffer .entry))) (now (values .entry))) × (now (buffer .exit) ≡ unlessShort 3 (length (now (values .entry))) ((calls (pushSlice (now (body .entry))) used (rememberedOf remembered) (now (buffer .entry))) .buffer) (now (buffer .entry))) ⌝ }
 {
-    if values.len() < 3 {
+    if values.len() < STATE_VALUES {
         return NO_ROOM;
     }
     built(
@@ -135,7 +138,7 @@ pub extern "C" fn bb_builder_push_int(
 ) -> u32
     ensures { λ r. ⌜ (handed r (now (values .exit)) ≡ builds (calls (pushInt n) used (rememberedOf remembered) (now (buffer .entry))) (now (values .entry))) × (now (buffer .exit) ≡ unlessShort 3 (length (now (values .entry))) ((calls (pushInt n) used (rememberedOf remembered) (now (buffer .entry))) .buffer) (now (buffer .entry))) ⌝ }
 {
-    if values.len() < 3 {
+    if values.len() < STATE_VALUES {
         return NO_ROOM;
     }
     built(builder_of(used, remembered).push_int(buffer, n), values)
@@ -152,7 +155,7 @@ pub extern "C" fn bb_builder_push_lock_time(
 ) -> u32
     ensures { λ r. ⌜ (handed r (now (values .exit)) ≡ builds (calls (pushInt (pos locktime)) used (rememberedOf remembered) (now (buffer .entry))) (now (values .entry))) × (now (buffer .exit) ≡ unlessShort 3 (length (now (values .entry))) ((calls (pushInt (pos locktime)) used (rememberedOf remembered) (now (buffer .entry))) .buffer) (now (buffer .entry))) ⌝ }
 {
-    if values.len() < 3 {
+    if values.len() < STATE_VALUES {
         return NO_ROOM;
     }
     built(
@@ -172,7 +175,7 @@ pub extern "C" fn bb_builder_push_sequence(
 ) -> u32
     ensures { λ r. ⌜ (handed r (now (values .exit)) ≡ builds (calls (pushInt (pos sequence)) used (rememberedOf remembered) (now (buffer .entry))) (now (values .entry))) × (now (buffer .exit) ≡ unlessShort 3 (length (now (values .entry))) ((calls (pushInt (pos sequence)) used (rememberedOf remembered) (now (buffer .entry))) .buffer) (now (buffer .entry))) ⌝ }
 {
-    if values.len() < 3 {
+    if values.len() < STATE_VALUES {
         return NO_ROOM;
     }
     built(
@@ -191,7 +194,7 @@ pub extern "C" fn bb_builder_push_verify(
 ) -> u32
     ensures { λ r. ⌜ (handed r (now (values .exit)) ≡ builds (calls pushVerify used (rememberedOf remembered) (now (buffer .entry))) (now (values .entry))) × (now (buffer .exit) ≡ unlessShort 3 (length (now (values .entry))) ((calls pushVerify used (rememberedOf remembered) (now (buffer .entry))) .buffer) (now (buffer .entry))) ⌝ }
 {
-    if values.len() < 3 {
+    if values.len() < STATE_VALUES {
         return NO_ROOM;
     }
     built(builder_of(used, remembered).push_verify(buffer), values)

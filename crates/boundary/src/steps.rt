@@ -22,6 +22,9 @@ ghost use Rattle.walk.specs.Places.{placesOf, positionsSay};
 ghost use Rattle.walk.specs.Answer.{isMinimal, saidFound};
 ghost use Rattle.boundary.specs.Handed.{handed, says, gives, steps, advances, movedTo, unlessShort, one, walkedRow, minimalOf};
 
+// How many values a step leaves at most: the place for the next call, and what stands there.
+const STEP_VALUES: usize = 6;
+
 // 0 is plain, any other number minimal.
 fn mode_of(mode: u32) -> Mode
     ensures { λ r. ⌜ isMinimal r ≡ minimalOf mode ⌝ }
@@ -57,7 +60,7 @@ fn put_two(values: &mut [u64], e: u64, f: u64)
 fn step(answer: Stepped, values: &mut [u64]) -> u32
     ensures { λ r. ⌜ handed r (now (values .exit)) ≡ steps (answer .next .at) (saidFound (answer .found)) (now (values .entry)) ⌝ }
 {
-    if values.len() < 6 {
+    if values.len() < STEP_VALUES {
         return NO_ROOM;
     }
     let next = answer.next;
@@ -130,7 +133,7 @@ pub extern "C" fn bb_cursor_new(values: &mut [u64]) -> u32
 pub extern "C" fn bb_next(script: &[u8], at: usize, mode: u32, values: &mut [u64]) -> u32
     ensures { λ r. ⌜ handed r (now (values .exit)) ≡ steps (nextAt (minimalOf mode) (now (script .entry)) at) (walkSays (minimalOf mode) (now (script .entry)) at) (now (values .entry)) ⌝ }
 {
-    if values.len() < 6 {
+    if values.len() < STEP_VALUES {
         return NO_ROOM;
     }
     let mode = mode_of(mode);
@@ -182,7 +185,7 @@ pub extern "C" fn bb_advance(
     if cursor.len() < 1 {
         return NO_ROOM;
     }
-    if values.len() < 6 {
+    if values.len() < STEP_VALUES {
         return NO_ROOM;
     }
     let at = cursor[0] as usize;

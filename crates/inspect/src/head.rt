@@ -32,7 +32,7 @@ fn digits_of(n: u64) -> Digits
     Digits { bytes, start: at }
 }
 
-// The screen up to the text: the first len bytes.
+// The screen up to the text: the first len bytes, of which there are 121 at most.
 pub(crate) struct Head {
     pub(crate) bytes: [u8; 160],
     pub(crate) len: usize,

@@ -14,7 +14,7 @@ use Rattle.walk.proofs.Run.{turn}
 use Rattle.templates.specs.Walked.{opcodeThen, numberThen, keysThen, isMultisig}
 
 -- what is asked of the first opcode
-abbrev first : ℕ → Run → Bool
+abbrev pub first : ℕ → Run → Bool
 first code rest = numberThen (λ m. keysThen m rest) (numberOf code)
 
 no-number : (o : Option ℕ) (f : ℕ → Bool) → numberThen (λ m. true) o ≡ false → numberThen f o ≡ false

@@ -15,6 +15,16 @@ ghost use Rattle.walk.specs.Walk.{walkSays, nextAt, sizeSaid};
 ghost use Rattle.walk.specs.Answer.{saidFound, isMinimal};
 ghost use Rattle.walk.specs.Steps.{stated, isNumber, tooShort};
 
+// The shortest body that needs each length form, which is what minimal mode wants of it.
+const LEAST_PUSHDATA1: usize = 76;
+
+const LEAST_PUSHDATA2: usize = 0x100;
+
+const LEAST_PUSHDATA4: usize = 0x10000;
+
+// -1 as a script number.
+const MINUS_ONE: u8 = 0x81;
+
 // The number that the k bytes from p on hold, the lowest first.
 fn read_le(s: &[u8], p: usize, k: usize) -> usize
     requires { ⌜ (k ≤ 4) × (p + k ≤ length (now s)) ⌝ }
@@ -48,7 +58,7 @@ fn is_number(s: &[u8], p: usize) -> bool
     if p < s.len() {
         let b = s[p];
         match b {
-            0x81 => true,
+            MINUS_ONE => true,
             1..=16 => true,
             _ => false,
         }
@@ -65,9 +75,9 @@ fn is_too_short(mode: Mode, s: &[u8], form: Form, body: usize, len: usize) -> bo
         Mode::Plain => false,
         Mode::Minimal => match form {
             Form::Direct => { if len == 1 { is_number(s, body) } else { false } }
-            Form::PushData1 => len < 76,
-            Form::PushData2 => len < 0x100,
-            Form::PushData4 => len < 0x10000,
+            Form::PushData1 => len < LEAST_PUSHDATA1,
+            Form::PushData2 => len < LEAST_PUSHDATA2,
+            Form::PushData4 => len < LEAST_PUSHDATA4,
         },
     }
 }

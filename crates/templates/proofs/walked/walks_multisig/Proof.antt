@@ -1,18 +1,12 @@
 -- `templates::walked::walks_multisig` meets its contract: a number opcode stands first, and the keys follow it. Assumes nothing.
 use mathlib.Core.Path.{sym, ap, _∙_}
-use mathlib.Core.Bool.{Bool}
-use Prim.Native.Nat.{ℕ}
 use borrow.Author.Needs.{needs}
-use Rattle.opcodes.specs.Opcode.{saidCode, numberOf}
-use Rattle.walk.specs.Run.{Run}
+use Rattle.opcodes.specs.Opcode.{saidCode}
 use Rattle.walk.proofs.Run.{turn-at}
 use Rattle.templates.specs.Walked.{opcodeThen, numberThen, keysThen, isMultisig}
+use Rattle.templates.proofs.Numbered.{first}
 use Rattle.templates.proofs.walked.walks_multisig.Statement.{statement}
 use Rattle.templates.proofs.walked.walks_multisig.Tie as tie
-
--- what is asked of the first opcode
-abbrev first : ℕ → Run → Bool
-first code rest = numberThen (λ m. keysThen m rest) (numberOf code)
 
 -- the first instruction is an opcode
 returns : tie.Need-returns
