@@ -12,9 +12,9 @@ use Rattle.walk.specs.Calls.{call}
 use Rattle.numbers.specs.ScriptNum.{serialize, scriptNum, nDefaultMaxNumSize}
 use Rattle.counts.specs.Count.{countSays}
 use Rattle.counts.specs.Dust.{dustSays}
-use Rattle.templates.specs.Kind.{Kind, p2pkh, p2sh, p2wpkh, p2wsh, p2tr, p2a, witness, p2pk, multisig, opreturn, other, kindOf}
+use Rattle.templates.specs.Kind.{kindOf}
 use Rattle.text.specs.Asm.{textOf}
-use Rattle.inspect.specs.Screen.{screenOf}
+use Rattle.inspect.specs.Screen.{kindName, screenOf}
 use Rattle.builder.specs.Builder.{Call}
 use Rattle.builder.specs.Lent.{Outcome, calls}
 
@@ -43,19 +43,6 @@ abbrev pub numberRow : ℤ → Row
 numberRow (pos n) = ("number", n ∷ [])
 numberRow (negsuc n) = ("minus", suc n ∷ [])
 
-abbrev pub kindRow : Kind → Row
-kindRow p2pkh = ("p2pkh", [])
-kindRow p2sh = ("p2sh", [])
-kindRow p2wpkh = ("p2wpkh", [])
-kindRow p2wsh = ("p2wsh", [])
-kindRow p2tr = ("p2tr", [])
-kindRow p2a = ("p2a", [])
-kindRow witness = ("witness", [])
-kindRow p2pk = ("p2pk", [])
-kindRow multisig = ("multisig", [])
-kindRow opreturn = ("opreturn", [])
-kindRow other = ("other", [])
-
 abbrev pub bytesRow : List ℕ → Row
 bytesRow s = ("bytes", s)
 
@@ -70,8 +57,9 @@ minimal s n = said walkedRow (call true s n)
 abbrev pub size : Bool → List ℕ → Row
 size mode s = said sizeRow (call mode s 0)
 
+-- by the name that the inspector shows
 abbrev pub kind : List ℕ → Row
-kind s = kindRow (kindOf s)
+kind s = (kindName (kindOf s), [])
 
 abbrev pub dust : List ℕ → Row
 dust s = said amountRow (dustSays s)
