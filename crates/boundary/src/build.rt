@@ -42,7 +42,7 @@ fn builder_of(used: usize, remembered: u32) -> Builder
 }
 
 // What a builder remembers, as a number.
-fn number_of(remembered: Code) -> usize
+fn remembered_as(remembered: Code) -> usize
     ensures { λ r. ⌜ r ≡ rememberedAs (saidCode remembered) ⌝ }
 {
     match remembered {
@@ -62,7 +62,7 @@ fn built(answer: Built, values: &mut [u64]) -> u32
     let said = answer.answer;
     values[0] = builder.length as u64;
     let remembered = builder.remembered;
-    values[1] = number_of(remembered) as u64;
+    values[1] = remembered_as(remembered) as u64;
     match said {
         Answer::Done => 0,
         Answer::Refused(why) => hand::refusal(why, values, 2),
@@ -76,7 +76,7 @@ pub extern "C" fn bb_builder_new(values: &mut [u64]) -> u32
 {
     let builder = Builder::new();
     let remembered = builder.remembered;
-    hand::two(builder.length, number_of(remembered), values)
+    hand::two(builder.length, remembered_as(remembered), values)
 }
 
 // A builder over the first bytes of a buffer.

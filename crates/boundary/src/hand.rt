@@ -237,7 +237,7 @@ pub(crate) fn place(answer: Place, values: &mut [u64]) -> u32
 }
 
 // The number of a kind, from 1 in document 01's order.
-fn number_of(kind: Template) -> u64
+fn kind_number(kind: Template) -> u64
     ensures { λ r. ⌜ one r ≡ kindRow (saidTemplate kind) ⌝ }
 {
     match kind {
@@ -264,7 +264,7 @@ pub(crate) fn kind(answer: Kinded, values: &mut [u64]) -> u32
     }
     match answer {
         Kinded::Is(kind) => {
-            values[0] = number_of(kind);
+            values[0] = kind_number(kind);
             0
         }
         Kinded::Refused(why) => refusal(why, values, 0),

@@ -37,8 +37,8 @@ pub use judged::is_p2wsh;
 pub use judged::is_push_only;
 pub use judged::is_witness_program;
 
-// Where the program of a witness program starts.
-const PROGRAM_START: usize = 2;
+// Where the program stands in a witness program, behind the version and the length.
+pub const PROGRAM_START: usize = 2;
 
 // The bytes of a script code, and where the hash lies in it.
 const SCRIPT_CODE_SIZE: usize = 25;

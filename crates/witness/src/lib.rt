@@ -3,6 +3,7 @@ use opcodes::OP_0;
 use opcodes::OP_PUSHNUM_1;
 use refusal::Counted;
 use refusal::Refusal;
+use templates::PROGRAM_START;
 ghost use mathlib.Core.Path.{_≡_};
 ghost use mathlib.Core.List.{_++_};
 ghost use Prim.Native.Nat.{_+_, _≤_};
@@ -12,9 +13,6 @@ ghost use Rattle.refusal.specs.Answer.{saidCount};
 ghost use Rattle.witness.specs.Program.{versionByte, wrongV0, witnessBytes, witnessSays};
 
 const MAX_VERSION: u8 = 16;
-
-// Where the program stands in the script, behind the version and the length.
-const PROGRAM_START: usize = 2;
 
 const MIN_PROGRAM: usize = 2;
 

@@ -15,7 +15,7 @@ returns : tie.Need-returns
 returns c =
     let n = c .before .before .before .before in
     let b = n .before .new .ensures in
-    gives-as 2 _ (c .before .before .two .ensures) (two-same (b .0) (n .number-of .ensures ∙ ap rememberedAs (b .1)))
+    gives-as 2 _ (c .before .before .two .ensures) (two-same (b .0) (n .remembered-as .ensures ∙ ap rememberedAs (b .1)))
 
 pub bb-builder-new-spec : {M : Type 1} → statement M
 bb-builder-new-spec =

@@ -21,7 +21,7 @@ returns-2 : tie.Need-returns-2
 returns-2 c =
     let n = c .before .before in
     let k = n .before .before in
-    λ buffer. builds-done _ (k .before .before .args .values .now) (k .if1 .left) (ap saidAnswer (c .enum-told .given .1)) (rw (n .number-of .ensures) refl)
+    λ buffer. builds-done _ (k .before .before .args .values .now) (k .if1 .left) (ap saidAnswer (c .enum-told .given .1)) (rw (n .remembered-as .ensures) refl)
 
 same-length-2 : tie.Need-same-length-2
 same-length-2 c =
@@ -34,7 +34,7 @@ returns-3 c =
     let f = d .before .before .before in
     let n = f .before .before in
     let k = n .before .before in
-    λ buffer. builds-refused _ (k .before .before .args .values .now) (f .said .given .0 .0) (k .if1 .left) (ap saidAnswer (f .said .given .1)) (d .refusal .ensures .0, d .refusal .ensures .1 ∙ rw (n .number-of .ensures) refl)
+    λ buffer. builds-refused _ (k .before .before .args .values .now) (f .said .given .0 .0) (k .if1 .left) (ap saidAnswer (f .said .given .1)) (d .refusal .ensures .0, d .refusal .ensures .1 ∙ rw (n .remembered-as .ensures) refl)
 
 pub built-spec : {M : Type 1} → statement M
 built-spec =

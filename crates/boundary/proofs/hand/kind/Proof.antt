@@ -16,7 +16,7 @@ returns c =
 returns-2 : tie.Need-returns-2
 returns-2 c =
     let k = c .before .before .before .before in
-    says-row kindRow _ _ (k .if1 .left) (ap saidKind (c .before .before .answer .given .1)) (front-row (_ ∷ []) (k .before .before .args .values .now) (sym (c .number-of .ensures)) (k .if1 .left))
+    says-row kindRow _ _ (k .if1 .left) (ap saidKind (c .before .before .answer .given .1)) (front-row (_ ∷ []) (k .before .before .args .values .now) (sym (c .kind-number .ensures)) (k .if1 .left))
 
 returns-3 : tie.Need-returns-3
 returns-3 c =
