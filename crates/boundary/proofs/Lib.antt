@@ -1,4 +1,2 @@
-pub mod Handing
-pub mod Advancing
 pub mod Shown
 pub mod Settled

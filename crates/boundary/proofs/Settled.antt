@@ -1,11 +1,10 @@
 -- Each entry is settled: two outcomes that its contract permits for one input are equal: the number, the values and what is left in every other
 -- slice that was lent. Assumes nothing.
-use mathlib.Core.Path.{_≡_, sym, _∙_}
-use mathlib.Core.List.{List}
+use mathlib.Core.Path.{_≡_}
 use Prim.Native.Nat.{ℕ}
 use denote.Ref.{now}
 use Rattle.laws.proofs.Settled.{same-value}
-use Rattle.boundary.specs.Handed.{Handed, handed}
+use Rattle.hand.proofs.Handing.{same-handed}
 use Rattle.boundary.proofs.codes.bb_classify.Reads as bb-classify
 use Rattle.boundary.proofs.codes.bb_decode_pushnum.Reads as bb-decode-pushnum
 use Rattle.boundary.proofs.codes.bb_opcode_to_verify.Reads as bb-opcode-to-verify
@@ -56,12 +55,6 @@ use Rattle.boundary.proofs.build.bb_builder_push_lock_time.Reads as bb-
 use Rattle.boundary.proofs.build.bb_builder_push_sequence.Reads as bb-builder-push-sequence
 use Rattle.boundary.proofs.build.bb_builder_push_verify.Reads as bb-builder-push-verify
 use Rattle.boundary.proofs.build.bb_builder_as_bytes.Reads as bb-builder-as-bytes
-
-injective : {E : Type 0} {r t : ℕ} {x y : List E} → handed r x ≡ handed t y → (r ≡ t) × (x ≡ y)
-injective e = (cc, cc)
-
-same-handed : {E : Type 0} {h : Handed E} {r t : ℕ} {x y : List E} → handed r x ≡ h → handed t y ≡ h → (r ≡ t) × (x ≡ y)
-same-handed p q = injective (p ∙ sym q)
 
 pub bb-classify-settled : (κs : _) (a : _) (r t : ℕ) (s u : _) → bb-classify.Post κs a r s → bb-classify.Post κs a t u
     → (r ≡ t) × (now (s .1 .0) ≡ now (u .1 .0))

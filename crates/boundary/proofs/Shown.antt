@@ -11,7 +11,7 @@ use lib.ListN.{length, take, drop}
 use lib.Seq.{length-take-le}
 use Rattle.laws.proofs.Test.{by-test}
 use Rattle.refusal.specs.Refusal.{limit}
-use Rattle.builder.specs.Lent.{notLast, builderSays, shownIf, shown}
+use Rattle.building.specs.Lent.{notLast, builderSays, shownIf, shown}
 
 first : (a b : Bool) → (a || b) ≡ false → a ≡ false
 first true b e = e

@@ -1,11 +1,10 @@
 // Signature operations, dust, and the length of the text.
-use crate::hand;
 ghost use mathlib.Core.Path.{_≡_};
 ghost use mathlib.Core.Bool.{true, false};
 ghost use Rattle.counts.specs.Count.{countSays};
-ghost use Rattle.counts.specs.Dust.{dustSays, customSays};
-ghost use Rattle.text.specs.Asm.{asmLenSays};
-ghost use Rattle.boundary.specs.Handed.{handed, says, one};
+ghost use Rattle.dust.specs.Dust.{dustSays, customSays};
+ghost use Rattle.asm.specs.Asm.{asmLenSays};
+ghost use Rattle.hand.specs.Handed.{handed, says, one};
 
 // The signature operations, as a node counts them in a redeem script.
 #[no_mangle]
@@ -28,7 +27,7 @@ pub extern "C" fn bb_count_sigops_legacy(script: &[u8], values: &mut [u64]) -> u
 pub extern "C" fn bb_minimal_non_dust(script: &[u8], values: &mut [u64]) -> u32
     ensures { λ r. ⌜ handed r (now (values .exit)) ≡ says 1 one (dustSays (now (script .entry))) (now (values .entry)) ⌝ }
 {
-    hand::dust(counts::minimal_non_dust(script), values)
+    hand::dust(dust::minimal_non_dust(script), values)
 }
 
 // The same at a rate in satoshi per 1000 weight units.
@@ -36,7 +35,7 @@ pub extern "C" fn bb_minimal_non_dust(script: &[u8], values: &mut [u64]) -> u32
 pub extern "C" fn bb_minimal_non_dust_custom(script: &[u8], rate: u64, values: &mut [u64]) -> u32
     ensures { λ r. ⌜ handed r (now (values .exit)) ≡ says 1 one (customSays (now (script .entry)) rate) (now (values .entry)) ⌝ }
 {
-    hand::dust(counts::minimal_non_dust_custom(script, rate), values)
+    hand::dust(dust::minimal_non_dust_custom(script, rate), values)
 }
 
 // The length of the asm text.

@@ -1,73 +1,20 @@
 // The builder: its state goes in as two numbers and comes back in the values.
-use crate::hand;
-use crate::hand::NO_ROOM;
-use builder::Answer;
 use builder::Builder;
-use builder::Built;
-use opcodes::Code;
+use hand::NO_ROOM;
+use held::STATE_VALUES;
+use held::builder_of;
+use held::built;
+use held::remembered_as;
 use refusal::Counted;
 ghost use mathlib.Core.Path.{_≡_};
-ghost use mathlib.Core.List.{List, [], _∷_};
+ghost use mathlib.Core.List.{[], _∷_};
 ghost use mathlib.Core.Option.{none};
-ghost use Prim.Native.Nat.{ℕ};
 ghost use lib.IntN.{pos};
 ghost use lib.ListN.{length};
 ghost use Rattle.laws.specs.Said.{answers};
-ghost use Rattle.opcodes.specs.Opcode.{saidCode};
-ghost use Rattle.builder.specs.Builder.{pushOpcode, pushSlice, pushInt, pushVerify, takesOver};
-ghost use Rattle.builder.specs.Lent.{calls, shown};
-ghost use Rattle.builder.specs.Answer.{saidBuilt};
-ghost use Rattle.boundary.specs.Handed.{handed, says, gives, builds, unlessShort, one, rememberedOf, rememberedAs};
-
-// How many values a call leaves at most: the state for the next call, and a refusal's value.
-const STATE_VALUES: usize = 3;
-
-// What is remembered where no opcode is.
-const NOTHING: u32 = 256;
-
-// A builder from two numbers.
-fn builder_of(used: usize, remembered: u32) -> Builder
-    ensures { λ r. ⌜ (r .length ≡ used) × (saidCode (r .remembered) ≡ rememberedOf remembered) ⌝ }
-{
-    if remembered < NOTHING {
-        return Builder {
-            length: used,
-            remembered: Code::Is(remembered as u8),
-        };
-    }
-    Builder {
-        length: used,
-        remembered: Code::Nothing,
-    }
-}
-
-// What a builder remembers, as a number.
-fn remembered_as(remembered: Code) -> usize
-    ensures { λ r. ⌜ r ≡ rememberedAs (saidCode remembered) ⌝ }
-{
-    match remembered {
-        Code::Is(code) => code as usize,
-        Code::Nothing => NOTHING as usize,
-    }
-}
-
-// A builder's answer: the state for the next call, and a refusal's value behind it.
-fn built(answer: Built, values: &mut [u64]) -> u32
-    ensures { λ r. ⌜ ((buffer : List ℕ) → handed r (now (values .exit)) ≡ builds (saidBuilt answer buffer) (now (values .entry))) ⌝ }
-{
-    if values.len() < STATE_VALUES {
-        return NO_ROOM;
-    }
-    let builder = answer.builder;
-    let said = answer.answer;
-    values[0] = builder.length as u64;
-    let remembered = builder.remembered;
-    values[1] = remembered_as(remembered) as u64;
-    match said {
-        Answer::Done => 0,
-        Answer::Refused(why) => hand::refusal(why, values, 2),
-    }
-}
+ghost use Rattle.building.specs.Builder.{pushOpcode, pushSlice, pushInt, pushVerify, takesOver};
+ghost use Rattle.building.specs.Lent.{calls, shown};
+ghost use Rattle.hand.specs.Handed.{handed, says, gives, builds, unlessShort, one, rememberedOf};
 
 // An empty script, nothing remembered.
 #[no_mangle]

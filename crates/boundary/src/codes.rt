@@ -1,15 +1,14 @@
 // Opcodes and script numbers.
-use crate::hand;
 use refusal::Counted;
 ghost use mathlib.Core.Path.{_≡_};
 ghost use mathlib.Core.Bool.{true, false};
 ghost use lib.ListN.{length};
 ghost use Rattle.laws.specs.Said.{answers};
 ghost use Rattle.opcodes.specs.Opcode.{sortOf, numberOf, verifyOf};
-ghost use Rattle.opcodes.specs.Names.{nameOf};
+ghost use Rattle.pool.specs.Names.{nameOf};
 ghost use Rattle.numbers.specs.ScriptNum.{scriptNum, nDefaultMaxNumSize};
 ghost use Rattle.numbers.specs.Answer.{lenSays, boolSays};
-ghost use Rattle.boundary.specs.Handed.{handed, says, reads, one, yes, maybe, sortRow};
+ghost use Rattle.hand.specs.Handed.{handed, says, reads, one, yes, maybe, sortRow};
 
 // The sort of an opcode byte.
 #[no_mangle]
@@ -40,7 +39,7 @@ pub extern "C" fn bb_opcode_to_verify(code: u8, values: &mut [u64]) -> u32
 pub extern "C" fn bb_name_len(code: u8, values: &mut [u64]) -> u32
     ensures { λ r. ⌜ handed r (now (values .exit)) ≡ says 1 one (answers (length (nameOf code))) (now (values .entry)) ⌝ }
 {
-    hand::count(Counted::Count(opcodes::name_len(code)), values)
+    hand::count(Counted::Count(names::name_len(code)), values)
 }
 
 // How many bytes `bb_write_scriptint` needs.

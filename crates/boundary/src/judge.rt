@@ -1,14 +1,11 @@
 // Templates.
-use crate::hand;
-use templates::Place;
 ghost use mathlib.Core.Path.{_≡_};
 ghost use mathlib.Core.List.{[], _∷_};
-ghost use Rattle.templates.specs.Fixed.{isPayToScriptHash, isPayToPubkeyHash, isPayToWitnessPubkeyHash, isPayToWitnessScriptHash, isPayToTaproot, isPayToAnchor, isPayToPubkey, isOpReturn, witnessVersion, isWitnessProgram};
-ghost use Rattle.templates.specs.Walked.{isMultisig, isPushOnly, redeemScript};
+ghost use Rattle.fixed.specs.Fixed.{isPayToScriptHash, isPayToPubkeyHash, isPayToWitnessPubkeyHash, isPayToWitnessScriptHash, isPayToTaproot, isPayToAnchor, isPayToPubkey, isOpReturn, witnessVersion, isWitnessProgram};
+ghost use Rattle.walked.specs.Walked.{isMultisig, isPushOnly, redeemScript};
 ghost use Rattle.templates.specs.Kind.{kindOf};
 ghost use Rattle.templates.specs.Says.{judges, pubkeyOf, startOf, lenOf};
-ghost use Rattle.templates.specs.Answer.{saidPlace};
-ghost use Rattle.boundary.specs.Handed.{handed, says, gives, one, yes, maybe, twoOf, kindRow};
+ghost use Rattle.hand.specs.Handed.{handed, says, gives, one, yes, maybe, twoOf, kindRow};
 
 // Whether a script pays to a script hash.
 #[no_mangle]
@@ -122,23 +119,12 @@ pub extern "C" fn bb_redeem_script(script: &[u8], values: &mut [u64]) -> u32
     hand::place(templates::redeem_script(script), values)
 }
 
-// A part as its place and length; nothing at the front where there is none.
-fn part(place: Place, values: &mut [u64]) -> u32
-    ensures { λ r. ⌜ handed r (now (values .exit)) ≡ gives 2 (startOf (saidPlace place) ∷ (lenOf (saidPlace place) ∷ [])) (now (values .entry)) ⌝ }
-{
-    match place {
-        Place::At { start, len } => hand::two(start, len, values),
-        Place::Nothing => hand::two(0, 0, values),
-        Place::Refused(_) => hand::two(0, 0, values),
-    }
-}
-
 // The key of a pay-to-pubkey script, as a part.
 #[no_mangle]
 pub extern "C" fn bb_p2pk_key_part(script: &[u8], values: &mut [u64]) -> u32
     ensures { λ r. ⌜ handed r (now (values .exit)) ≡ gives 2 (startOf (judges pubkeyOf (now (script .entry))) ∷ (lenOf (judges pubkeyOf (now (script .entry))) ∷ [])) (now (values .entry)) ⌝ }
 {
-    part(templates::p2pk_key(script), values)
+    hand::part(templates::p2pk_key(script), values)
 }
 
 // The last body of a script of pushes alone, as a part.
@@ -146,7 +132,7 @@ pub extern "C" fn bb_p2pk_key_part(script: &[u8], values: &mut [u64]) -> u32
 pub extern "C" fn bb_redeem_part(script: &[u8], values: &mut [u64]) -> u32
     ensures { λ r. ⌜ handed r (now (values .exit)) ≡ gives 2 (startOf (judges redeemScript (now (script .entry))) ∷ (lenOf (judges redeemScript (now (script .entry))) ∷ [])) (now (values .entry)) ⌝ }
 {
-    part(templates::redeem_script(script), values)
+    hand::part(templates::redeem_script(script), values)
 }
 
 // The first kind that fits.

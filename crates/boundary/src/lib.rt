@@ -4,7 +4,6 @@
 mod amounts;
 mod build;
 mod codes;
-mod hand;
 mod judge;
 mod steps;
 mod write;

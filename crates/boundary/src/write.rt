@@ -1,18 +1,17 @@
 // What is written into a lent buffer.
-use crate::hand;
-use crate::hand::NO_ROOM;
+use hand::NO_ROOM;
 ghost use mathlib.Core.Path.{_≡_};
 ghost use lib.ListN.{length};
 ghost use Rattle.laws.specs.Buffer.{writes, after};
-ghost use Rattle.opcodes.specs.Names.{nameOf};
+ghost use Rattle.pool.specs.Names.{nameOf};
 ghost use Rattle.numbers.specs.ScriptNum.{serialize};
 ghost use Rattle.numbers.specs.Answer.{writeSays};
-ghost use Rattle.templates.specs.Fixed.{scriptCode};
+ghost use Rattle.fixed.specs.Fixed.{scriptCode};
 ghost use Rattle.templates.specs.Says.{codeSays};
-ghost use Rattle.text.specs.Asm.{textOf, asmSays};
+ghost use Rattle.asm.specs.Asm.{textOf, asmSays};
 ghost use Rattle.witness.specs.Program.{witnessBytes, witnessSays};
-ghost use Rattle.inspect.specs.Screen.{screenOf, inspectSays};
-ghost use Rattle.boundary.specs.Handed.{handed, says, unlessShort, one, maybe};
+ghost use Rattle.screen.specs.Screen.{screenOf, inspectSays};
+ghost use Rattle.hand.specs.Handed.{handed, says, unlessShort, one, maybe};
 
 // The name of an opcode.
 #[no_mangle]
@@ -22,7 +21,7 @@ pub extern "C" fn bb_write_name(code: u8, out: &mut [u8], values: &mut [u64]) ->
     if values.len() < 1 {
         return NO_ROOM;
     }
-    hand::count(opcodes::write_name(code, out), values)
+    hand::count(names::write_name(code, out), values)
 }
 
 // A number in the fewest bytes.

@@ -1,22 +1,15 @@
 -- Answers that say the same are the same, and calls that leave the same gave the same. Assumes nothing.
-use mathlib.Core.Path.{_≡_, refl, ap, ap₂}
+use mathlib.Core.Path.{_≡_, ap, ap₂}
 use mathlib.Core.List.{List}
 use Prim.Native.Nat.{ℕ}
-use Rattle.refusal.proofs.Same.{same-refusal}
+use Rattle.layout.proofs.Same.{same-answer}
 use Rattle.opcodes.specs.declared.Code.{Code}
 use Rattle.opcodes.proofs.Same.{same-code}
-use Rattle.builder.specs.Lent.{Outcome}
-use Rattle.builder.specs.Answer.{saidAnswer, saidBuilt}
-use Rattle.builder.specs.declared.Answer.{Answer}
-use Rattle.builder.specs.declared.Answer.the-variants.{Done, Refused}
+use Rattle.building.specs.Lent.{Outcome}
+use Rattle.builder.specs.Answer.{saidBuilt}
+use Rattle.layout.specs.declared.Answer.{Answer}
 use Rattle.builder.specs.declared.Builder.{Builder}
 use Rattle.builder.specs.declared.Built.{Built}
-
-pub same-answer : (a b : Answer) → saidAnswer a ≡ saidAnswer b → a ≡ b
-same-answer Done Done e = refl
-same-answer Done (Refused t) e = cc
-same-answer (Refused r) Done e = cc
-same-answer (Refused r) (Refused t) e = ap Refused (same-refusal r t e)
 
 abbrev builder : ℕ → Code → Builder
 builder length remembered = record { length = length; remembered = remembered }

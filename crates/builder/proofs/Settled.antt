@@ -6,7 +6,7 @@ use Prim.Native.Nat.{ℕ}
 use denote.Ref.{RefT, now, ptr}
 use Rattle.laws.proofs.Settled.{settled, same-value}
 use Rattle.opcodes.proofs.Same.{same-code}
-use Rattle.builder.specs.Lent.{Outcome}
+use Rattle.building.specs.Lent.{Outcome}
 use Rattle.builder.specs.Answer.{saidBuilt}
 use Rattle.builder.specs.declared.Builder.{Builder}
 use Rattle.builder.specs.declared.Built.{Built}

@@ -1,3 +1,1 @@
-pub mod Builder
-pub mod Lent
 pub mod Answer

@@ -1,34 +1,31 @@
 // Scripts built piece by piece into a lent buffer: opcodes, data, integers, lock times, and verify folded into the last opcode.
-use choose::int_opcode;
-use choose::last_opcode;
-use choose::verify_form;
+pub use layout::Answer;
+use layout::check;
+use layout::int_opcode;
+use layout::last_opcode;
+use layout::lay;
+use layout::shown_len;
+use layout::verify_form;
 use numbers::write_scriptint;
 use opcodes::Code;
+use opcodes::Form;
 use opcodes::OP_PUSHDATA1;
 use opcodes::OP_PUSHDATA2;
 use opcodes::OP_PUSHDATA4;
 use opcodes::OP_VERIFY;
 use refusal::Counted;
-use refusal::MAX_SCRIPT;
 use refusal::Refusal;
-use store::fits;
-use store::put_push;
 ghost use mathlib.Core.Path.{_≡_};
-ghost use mathlib.Core.List.{_∷_, _++_};
 ghost use mathlib.Core.Option.{none};
-ghost use Prim.Native.Nat.{_≤_};
 ghost use lib.IntN.{pos};
 ghost use lib.ListN.{length};
 ghost use Rattle.refusal.specs.Refusal.{saidRefusal};
-ghost use Rattle.opcodes.specs.Opcode.{saidCode};
-ghost use Rattle.walk.specs.Instruction.{writeLE};
+ghost use Rattle.opcodes.specs.Opcode.{saidForm, saidCode};
 ghost use Rattle.walk.specs.Part.{Part};
-ghost use Rattle.builder.specs.Builder.{appends, pushOpcode, pushSlice, pushInt, pushVerify, takesOver};
-ghost use Rattle.builder.specs.Lent.{builderSays, calls, shown};
-ghost use Rattle.builder.specs.Answer.{saidAnswer, saidBuilt, callsBy};
-
-mod choose;
-mod store;
+ghost use Rattle.building.specs.Builder.{appends, pushOpcode, pushSlice, pushInt, pushVerify, takesOver};
+ghost use Rattle.building.specs.Lent.{calls, shown};
+ghost use Rattle.layout.specs.Laid.{headed};
+ghost use Rattle.builder.specs.Answer.{saidBuilt, callsBy};
 
 // The longest body that each length form can state, but for the longest form.
 const MAX_DIRECT: usize = 75;
@@ -41,12 +38,6 @@ const MAX_PUSHDATA2: usize = 0xffff;
 pub struct Builder {
     pub length: usize,
     pub remembered: Code,
-}
-
-// Whether a call did what it was asked.
-pub enum Answer {
-    Done,
-    Refused(Refusal),
 }
 
 // What a call answers, and the builder for the next one. After a refusal that is the builder that the call got, and the buffer is as it was.
@@ -66,79 +57,31 @@ impl Builder {
         }
     }
 
-    // Refused with 1 for a used length over the limit; with 13 for one over the buffer's, or where an opcode is remembered that is not the last
-    // used byte.
-    fn check(self, buffer: &[u8]) -> Answer
-        ensures { λ r. ⌜ saidAnswer r ≡ builderSays (self .length) (saidCode (self .remembered)) (now (buffer .entry)) ⌝ }
+    // Appends an opcode byte, the form's length bytes and the body. The refusals of `check` come first; then 1 for a built script over the limit,
+    // and 7 with its whole length where the buffer is shorter.
+    fn append(self, buffer: &mut [u8], code: u8, form: Form, body: &[u8], remembered: Code) -> Built
+        ensures { λ r. ⌜ saidBuilt r (now (buffer .exit)) ≡ callsBy self (appends (headed code (saidForm form) (now (body .entry))) (saidCode remembered)) (now (buffer .entry)) ⌝ }
     {
-        let used = self.length;
-        let remembered = self.remembered;
-        if MAX_SCRIPT < used {
-            return Answer::Refused(Refusal::TooLong);
-        }
-        if buffer.len() < used {
-            return Answer::Refused(Refusal::BadBuilder);
-        }
-        let Code::Is(code) = remembered else {
-            return Answer::Done;
-        };
-        if used == 0 {
-            return Answer::Refused(Refusal::BadBuilder);
-        }
-        if buffer[used - 1] == code {
-            Answer::Done
-        } else {
-            Answer::Refused(Refusal::BadBuilder)
-        }
-    }
-
-    // How many bytes of the buffer are shown: the used ones, and none for a builder that `check` refuses.
-    fn used(self, buffer: &[u8]) -> usize
-        ensures { λ r. ⌜ (r ≡ shown (self .length) (saidCode (self .remembered)) (now (buffer .entry))) × (r ≤ length (now (buffer .entry))) ⌝ }
-    {
-        let given = self.check(buffer);
-        match given {
-            Answer::Done => self.length,
-            Answer::Refused(_) => 0,
-        }
-    }
-
-    // Appends an opcode byte, the lowest `width` bytes of the body's length, and the body. The refusals of `check` come first; then 1 for a built
-    // script over the limit, and 7 with its whole length where the buffer is shorter.
-    fn append(
-        self,
-        buffer: &mut [u8],
-        code: u8,
-        width: usize,
-        body: &[u8],
-        remembered: Code,
-    ) -> Built
-        requires { ⌜ width ≤ 4 ⌝ }
-        ensures { λ r. ⌜ saidBuilt r (now (buffer .exit)) ≡ callsBy self (appends (code ∷ (writeLE width (length (now (body .entry))) ++ now (body .entry))) (saidCode remembered)) (now (buffer .entry)) ⌝ }
-    {
-        let given = self.check(buffer);
+        let last = self.remembered;
+        let given = check(self.length, last, buffer);
         if let Answer::Refused(why) = given {
             return Built {
                 answer: Answer::Refused(why),
                 builder: self,
             };
         }
-        let used = self.length;
-        let head = 1 + width;
-        let built = fits(used, head, body.len(), buffer.len());
-        if let Answer::Refused(why) = built {
-            return Built {
+        let laid = lay(buffer, self.length, code, form, body);
+        match laid {
+            Counted::Refused(why) => Built {
                 answer: Answer::Refused(why),
                 builder: self,
-            };
-        }
-        put_push(buffer, used, code, width, body);
-        let size = used + head + body.len();
-        Built {
-            answer: Answer::Done,
-            builder: Builder {
-                length: size,
-                remembered,
+            },
+            Counted::Count(size) => Built {
+                answer: Answer::Done,
+                builder: Builder {
+                    length: size,
+                    remembered,
+                },
             },
         }
     }
@@ -147,7 +90,7 @@ impl Builder {
     pub fn push_opcode(self, buffer: &mut [u8], code: u8) -> Built
         ensures { λ r. ⌜ saidBuilt r (now (buffer .exit)) ≡ callsBy self (pushOpcode code) (now (buffer .entry)) ⌝ }
     {
-        self.append(buffer, code, 0, b"", Code::Is(code))
+        self.append(buffer, code, Form::Direct, b"", Code::Is(code))
     }
 
     // Appends a push of the body in the shortest length form, never a number opcode, and remembers nothing. Refused with 1, 13, 1, 7.
@@ -156,22 +99,23 @@ impl Builder {
     {
         let len = body.len();
         if len <= MAX_DIRECT {
-            return self.append(buffer, len as u8, 0, body, Code::Nothing);
+            return self.append(buffer, len as u8, Form::Direct, body, Code::Nothing);
         }
         if len <= MAX_PUSHDATA1 {
-            return self.append(buffer, OP_PUSHDATA1, 1, body, Code::Nothing);
+            return self.append(buffer, OP_PUSHDATA1, Form::PushData1, body, Code::Nothing);
         }
         if len <= MAX_PUSHDATA2 {
-            return self.append(buffer, OP_PUSHDATA2, 2, body, Code::Nothing);
+            return self.append(buffer, OP_PUSHDATA2, Form::PushData2, body, Code::Nothing);
         }
-        self.append(buffer, OP_PUSHDATA4, 4, body, Code::Nothing)
+        self.append(buffer, OP_PUSHDATA4, Form::PushData4, body, Code::Nothing)
     }
 
     // Refuses with what `check` says, if it refuses, and else with this; the builder is handed back as it came.
     fn refuse(self, buffer: &[u8], why: Refusal) -> Built
         ensures { λ r. ⌜ saidBuilt r (now (buffer .entry)) ≡ callsBy self (λ st. saidRefusal why) (now (buffer .entry)) ⌝ }
     {
-        let given = self.check(buffer);
+        let last = self.remembered;
+        let given = check(self.length, last, buffer);
         if let Answer::Refused(first) = given {
             return Built {
                 answer: Answer::Refused(first),
@@ -224,7 +168,7 @@ impl Builder {
         let Code::Is(code) = form else {
             return self.push_opcode(buffer, OP_VERIFY);
         };
-        let given = self.check(buffer);
+        let given = check(self.length, remembered, buffer);
         if let Answer::Refused(why) = given {
             return Built {
                 answer: Answer::Refused(why),
@@ -251,7 +195,7 @@ impl Builder {
             length,
             remembered: Code::Nothing,
         };
-        let answer = builder.check(buffer);
+        let answer = check(length, Code::Nothing, buffer);
         match answer {
             Answer::Refused(_) => Built { answer, builder },
             Answer::Done => Built {
@@ -268,7 +212,8 @@ impl Builder {
     pub fn as_bytes<'a>(self, buffer: &'a [u8]) -> &'a [u8]
         ensures { λ r. ⌜ Part r (buffer .entry) 0 (shown (self .length) (saidCode (self .remembered)) (now (buffer .entry))) ⌝ }
     {
-        let used = self.used(buffer);
+        let last = self.remembered;
+        let used = shown_len(self.length, last, buffer);
         &buffer[..used]
     }
 }

@@ -13,11 +13,11 @@ use Rattle.laws.specs.Said.{answers, refuses}
 use Rattle.laws.proofs.Test.{lt-or-le}
 use Rattle.refusal.specs.Refusal.{limit}
 use Rattle.opcodes.specs.Opcode.{PushForm, direct, pushdata1, pushdata2, pushdata4}
-use Rattle.walk.specs.Script.{ScriptOp, fails, reads, assign, getScriptOp}
-use Rattle.walk.specs.Walk.{opcode, push, judged, walkSays, nextAt}
-use Rattle.walk.proofs.Good.{OpcodeAt, PushAt, good-answer}
-use Rattle.walk.proofs.Minimal.{IsOf}
-use Rattle.walk.proofs.Step.{inside, push-code, opcode-read, push-read}
+use Rattle.script.specs.Script.{ScriptOp, fails, reads, assign, getScriptOp}
+use Rattle.script.specs.Walk.{opcode, push, judged, walkSays, nextAt}
+use Rattle.script.proofs.Good.{OpcodeAt, PushAt, good-answer}
+use Rattle.script.proofs.Minimal.{IsOf}
+use Rattle.script.proofs.Step.{inside, push-code, opcode-read, push-read}
 use Rattle.counts.proofs.Weight.{counts-none-below}
 use Rattle.counts.specs.Count.{sigOps, while, getSigOpCount}
 use Rattle.opcodes.specs.Core.{OP-INVALIDOPCODE}

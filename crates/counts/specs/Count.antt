@@ -17,7 +17,7 @@ use Rattle.opcodes.specs.Core.{
   OP-INVALIDOPCODE,
   decodeOP-N,
 }
-use Rattle.walk.specs.Script.{ScriptOp, fails, reads, getScriptOp}
+use Rattle.script.specs.Script.{ScriptOp, fails, reads, getScriptOp}
 
 -- Core's script/script.h
 abbrev pub MAX-PUBKEYS-PER-MULTISIG : ℕ

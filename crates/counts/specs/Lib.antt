@@ -1,3 +1,1 @@
 pub mod Count
-pub mod Dust
-pub mod Answer

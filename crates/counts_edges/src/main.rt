@@ -1,6 +1,6 @@
 // Prints signature counts, dust amounts and witness scripts at the edges of their inputs, one line for each call. A lent buffer is filled with 0xee
 // before the call and printed whole after it, so that a byte that was not written shows.
-use counts::Dust;
+use dust::Dust;
 
 // A script by its bytes, or by their count where there are many.
 fn script_name(script: &[u8]) {
@@ -34,7 +34,7 @@ fn dust(answer: Dust) {
 fn dust_line(script: &[u8]) {
     show::text(b"dust");
     script_name(script);
-    dust(counts::minimal_non_dust(script));
+    dust(dust::minimal_non_dust(script));
     show::line_end();
 }
 
@@ -42,7 +42,7 @@ fn custom_line(script: &[u8], rate: u64) {
     show::text(b"rate ");
     show::decimal(rate);
     script_name(script);
-    dust(counts::minimal_non_dust_custom(script, rate));
+    dust(dust::minimal_non_dust_custom(script, rate));
     show::line_end();
 }
 

@@ -8,8 +8,8 @@ use lib.ListN.{length}
 use Rattle.laws.specs.Said.{answers}
 use Rattle.refusal.specs.Refusal.{limit}
 use Rattle.counts.specs.Count.{getSigOpCount, countSays}
-use Rattle.counts.specs.Dust.{dustOf, dustSays}
-use Rattle.text.specs.Asm.{textOf, asmLenSays, asmSays}
+use Rattle.dust.specs.Dust.{dustOf, dustSays}
+use Rattle.asm.specs.Asm.{textOf, asmLenSays, asmSays}
 
 module _ (s : List ℕ) (h : length s ≤ limit) where
   pub dusted : dustSays s ≡ answers (dustOf s)

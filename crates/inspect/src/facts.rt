@@ -1,5 +1,5 @@
 // What the other crates say of a script that is within their limit, where nothing is refused.
-use counts::Dust;
+use dust::Dust;
 use refusal::Counted;
 use templates::Kinded;
 use templates::Template;
@@ -13,9 +13,9 @@ ghost use Rattle.refusal.specs.Refusal.{limit};
 ghost use Rattle.templates.specs.Answer.{saidTemplate};
 ghost use Rattle.templates.specs.Kind.{kindOf};
 ghost use Rattle.counts.specs.Count.{getSigOpCount};
-ghost use Rattle.counts.specs.Dust.{dustOf};
-ghost use Rattle.text.specs.Asm.{textOf};
-ghost use Rattle.inspect.specs.Screen.{most};
+ghost use Rattle.dust.specs.Dust.{dustOf};
+ghost use Rattle.asm.specs.Asm.{textOf};
+ghost use Rattle.screen.specs.Screen.{most};
 
 // The kind of a script within the limit.
 pub(crate) fn kind_of(script: &[u8]) -> Template
@@ -44,7 +44,7 @@ pub(crate) fn dust_of(script: &[u8]) -> u64
     requires { ⌜ length (now script) ≤ limit ⌝ }
     ensures { λ r. ⌜ r ≡ dustOf (now (script .entry)) ⌝ }
 {
-    let dust = counts::minimal_non_dust(script);
+    let dust = dust::minimal_non_dust(script);
     match dust {
         Dust::Satoshi(n) => n,
         Dust::Refused(_) => 0,

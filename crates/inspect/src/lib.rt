@@ -5,7 +5,7 @@ use facts::kind_of;
 use facts::legacy_of;
 use facts::text_len;
 use head::Head;
-use head::first_lines;
+use head::head_lines;
 use put::put_screen;
 use refusal::Counted;
 use refusal::Refusal;
@@ -16,12 +16,12 @@ ghost use lib.ListN.{length};
 ghost use Rattle.laws.specs.Buffer.{writes, after};
 ghost use Rattle.refusal.specs.Answer.{saidCount};
 ghost use Rattle.refusal.specs.Refusal.{limit};
-ghost use Rattle.opcodes.specs.Text.{decimal};
-ghost use Rattle.inspect.specs.Screen.{most, line, screenOf, inspectSays};
-ghost use Rattle.inspect.specs.Steps.{Shows, headOf};
+ghost use Rattle.pool.specs.Text.{decimal};
+ghost use Rattle.screen.specs.Screen.{most, line, screenOf, inspectSays};
+ghost use Rattle.head.specs.Shown.{Shows};
+ghost use Rattle.screen.specs.Steps.{headOf};
 
 mod facts;
-mod head;
 mod put;
 
 // The longest script that is inspected, in bytes.
@@ -35,9 +35,13 @@ fn head_of(script: &[u8]) -> Head
     requires { ⌜ length (now script) ≤ limit ⌝ }
     ensures { λ r. ⌜ Shows r (headOf (now (script .entry))) × (r .len ≤ 121) ⌝ }
 {
-    let first = first_lines(script.len() as u64, kind_of(script));
-    let counted = first.counts_line(accurate_of(script), legacy_of(script));
-    counted.last_lines(dust_of(script))
+    head_lines(
+        script.len() as u64,
+        kind_of(script),
+        accurate_of(script),
+        legacy_of(script),
+        dust_of(script),
+    )
 }
 
 // Whether a script is over the inspector's limit.

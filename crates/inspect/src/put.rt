@@ -1,12 +1,12 @@
 // Each part of the screen, stored in a buffer that has room for it.
 use crate::facts::count_in;
-use crate::head::Head;
+use head::Head;
 ghost use mathlib.Core.Path.{_≡_};
 ghost use mathlib.Core.List.{_∷_, _++_};
 ghost use Prim.Native.Nat.{_+_, _≤_, _<_};
 ghost use lib.ListN.{length, take, drop};
 ghost use Rattle.refusal.specs.Refusal.{limit};
-ghost use Rattle.text.specs.Asm.{textOf};
+ghost use Rattle.asm.specs.Asm.{textOf};
 
 // Stores the text and a line end at the front of a buffer that has room for them.
 fn put_text(script: &[u8], out: &mut [u8])

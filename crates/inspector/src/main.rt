@@ -8,7 +8,7 @@ ghost use mathlib.Core.Path.{_≡_};
 ghost use mathlib.Core.List.{_++_};
 ghost use Prim.Native.Nat.{_≤_, _<_};
 ghost use lib.ListN.{length, drop};
-ghost use Rattle.inspect.specs.Screen.{most, screenOf};
+ghost use Rattle.screen.specs.Screen.{most, screenOf};
 ghost use Rattle.inspector.specs.Input.{Within};
 
 // How many bytes are read at most: one more than is inspected. What follows them changes no screen.

@@ -1,18 +1,18 @@
 -- W1 to W12 and the inspector's example as one test: the checker computes the table's first column from the definitions, and finds the second. Assumes nothing.
 use mathlib.Core.Path.{_≡_, refl}
-use Rattle.opcodes.specs.Text.{decimal, digits}
-use Rattle.opcodes.specs.Names.{nameOf}
-use Rattle.walk.specs.Script.{readLE, assign, sized, operand, getScriptOp, checkMinimalPush}
-use Rattle.walk.specs.Walk.{notMinimal, saysLess, cutNotMinimal, walkSays, nextAt}
-use Rattle.walk.specs.Calls.{position}
-use Rattle.walk.specs.Run.{walkFor, walkFrom}
+use Rattle.pool.specs.Text.{decimal, digits}
+use Rattle.pool.specs.Names.{nameOf}
+use Rattle.script.specs.Script.{readLE, assign, sized, operand, getScriptOp, checkMinimalPush}
+use Rattle.script.specs.Walk.{notMinimal, saysLess, cutNotMinimal, walkSays, nextAt}
+use Rattle.script.specs.Calls.{position}
+use Rattle.script.specs.Run.{walkFor, walkFrom}
 use Rattle.numbers.specs.ScriptNum.{lowBytes, serialize, setVch, nonMinimal, scriptNum}
 use Rattle.counts.specs.Count.{multisigOps, sigOps, while, getSigOpCount, countSays}
-use Rattle.counts.specs.Dust.{getSizeOfCompactSize, dustSize, dustSays}
-use Rattle.templates.specs.Fixed.{isPayToScriptHash, isPayToPubkeyHash, isProgramOf, isPayToAnchor, isKeyOf, isPayToPubkey, isOpReturn, isWitnessProgram}
-use Rattle.templates.specs.Walked.{isMultisig}
+use Rattle.dust.specs.Dust.{getSizeOfCompactSize, dustSize, dustSays}
+use Rattle.fixed.specs.Fixed.{isPayToScriptHash, isPayToPubkeyHash, isProgramOf, isPayToAnchor, isKeyOf, isPayToPubkey, isOpReturn, isWitnessProgram}
+use Rattle.walked.specs.Walked.{isMultisig}
 use Rattle.templates.specs.Kind.{kindOf}
-use Rattle.text.specs.Asm.{
+use Rattle.asm.specs.Asm.{
   hex,
   opcodeText,
   dataText,
@@ -26,9 +26,9 @@ use Rattle.text.specs.Asm.{
   textFrom,
   textOf,
 }
-use Rattle.inspect.specs.Screen.{linesOf, screenOf}
-use Rattle.builder.specs.Builder.{pushVerify}
-use Rattle.builder.specs.Lent.{builderSays, builtSays, calls}
+use Rattle.screen.specs.Screen.{linesOf, screenOf}
+use Rattle.building.specs.Builder.{pushVerify}
+use Rattle.building.specs.Lent.{builderSays, builtSays, calls}
 use Rattle.marked.specs.Table.{computed, paper}
 
 pub marked : computed ≡ paper

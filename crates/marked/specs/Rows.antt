@@ -7,16 +7,16 @@ use lib.IntN.{ℤ, pos, negsuc}
 use lib.ListN.{take}
 use Rattle.laws.specs.Said.{Said, answers, refuses}
 use Rattle.opcodes.specs.Opcode.{lengthBytes}
-use Rattle.walk.specs.Walk.{Walked, end, opcode, push, sizeOf}
-use Rattle.walk.specs.Calls.{call}
+use Rattle.script.specs.Walk.{Walked, end, opcode, push, sizeOf}
+use Rattle.script.specs.Calls.{call}
 use Rattle.numbers.specs.ScriptNum.{serialize, scriptNum, nDefaultMaxNumSize}
 use Rattle.counts.specs.Count.{countSays}
-use Rattle.counts.specs.Dust.{dustSays}
+use Rattle.dust.specs.Dust.{dustSays}
 use Rattle.templates.specs.Kind.{kindOf}
-use Rattle.text.specs.Asm.{textOf}
-use Rattle.inspect.specs.Screen.{kindName, screenOf}
-use Rattle.builder.specs.Builder.{Call}
-use Rattle.builder.specs.Lent.{Outcome, calls}
+use Rattle.asm.specs.Asm.{textOf}
+use Rattle.screen.specs.Screen.{kindName, screenOf}
+use Rattle.building.specs.Builder.{Call}
+use Rattle.building.specs.Lent.{Outcome, calls}
 
 abbrev pub Row : Type 0
 Row = String × List ℕ

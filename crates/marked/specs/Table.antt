@@ -6,9 +6,9 @@ use Prim.Native.Nat.{ℕ}
 use Prim.Native.String.{String}
 use lib.IntN.{pos, negℤ}
 use lib.ListN.{replicate}
-use Rattle.opcodes.specs.Text.{text}
-use Rattle.builder.specs.Builder.{pushOpcode, pushVerify}
-use Rattle.builder.specs.Lent.{Outcome, calls}
+use Rattle.pool.specs.Text.{text}
+use Rattle.building.specs.Builder.{pushOpcode, pushVerify}
+use Rattle.building.specs.Lent.{Outcome, calls}
 use Rattle.marked.specs.Rows.{Row, plain, minimal, size, kind, dust, asm, written, strict, loose, accurate, legacy, screen, built, then}
 
 abbrev pub W1 : List ℕ

@@ -1,4 +1,2 @@
 pub mod Same
 pub mod Settled
-pub mod Pooled
-pub mod Distinct

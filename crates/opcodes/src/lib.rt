@@ -1,16 +1,6 @@
-// Opcode bytes: what sort of instruction each starts, and its name.
+// Opcode bytes: what sort of instruction each starts, and what goes with it.
 ghost use mathlib.Core.Path.{_≡_};
 ghost use Rattle.opcodes.specs.Opcode.{sortOf, lengthBytes, saidClass, saidForm, numberOf, verifyOf, saidCode};
-
-mod names;
-
-pub use names::name_in;
-pub use names::name_len;
-pub use names::name_len_in;
-pub use names::name_lengths;
-pub use names::name_pool;
-pub use names::name_starts;
-pub use names::write_name;
 
 pub const OP_0: u8 = 0x00;
 

@@ -3,8 +3,8 @@
 mod entries;
 mod expect;
 mod file;
+mod labels;
 mod lent;
-mod names;
 mod on_builder;
 mod on_numbers;
 mod on_opcodes;

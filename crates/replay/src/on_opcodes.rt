@@ -31,13 +31,13 @@ fn form_of(n: u8) -> Form {
 }
 
 fn write_name(code: u8, out: &mut [u8], want: &[u8]) -> usize {
-    let answer = opcodes::write_name(code, out);
+    let answer = names::write_name(code, out);
     expect::written(want, answer, out)
 }
 
 fn name_len_in(code: u8) -> usize {
-    let lengths = opcodes::name_lengths();
-    opcodes::name_len_in(&lengths, code)
+    let lengths = pool::name_lengths();
+    names::name_len_in(&lengths, code)
 }
 
 fn coded(want: &[u8], answer: Code) -> usize {
@@ -46,11 +46,11 @@ fn coded(want: &[u8], answer: Code) -> usize {
 }
 
 fn name_in(code: u8, want: &[u8]) -> usize {
-    let pool = opcodes::name_pool();
-    let starts = opcodes::name_starts();
-    let lengths = opcodes::name_lengths();
+    let pool = pool::name_pool();
+    let starts = pool::name_starts();
+    let lengths = pool::name_lengths();
     let at = expect::number(want, 0, 0);
-    expect::bytes(want, at, opcodes::name_in(&pool, &starts, &lengths, code))
+    expect::bytes(want, at, names::name_in(&pool, &starts, &lengths, code))
 }
 
 pub(crate) fn answer(kind: u8, code: u8, out: &mut [u8], want: &[u8]) -> usize {
@@ -59,7 +59,7 @@ pub(crate) fn answer(kind: u8, code: u8, out: &mut [u8], want: &[u8]) -> usize {
         2 => expect::value(want, opcodes::length_bytes(form_of(code)) as u64),
         3 => coded(want, opcodes::decode_pushnum(code)),
         4 => coded(want, opcodes::opcode_to_verify(code)),
-        5 => expect::value(want, opcodes::name_len(code) as u64),
+        5 => expect::value(want, names::name_len(code) as u64),
         6 => write_name(code, out, want),
         7 => expect::value(want, name_len_in(code) as u64),
         8 => name_in(code, want),

@@ -1,6 +1,6 @@
 // The entries of `counts`, `text` and `witness`, numbers 34 to 39 and 48.
 use crate::expect;
-use counts::Dust;
+use dust::Dust;
 
 fn dust(want: &[u8], answer: Dust) -> usize {
     match answer {
@@ -23,8 +23,8 @@ pub(crate) fn counted(kind: u8, rate: u64, input: &[u8], want: &[u8]) -> usize {
     match kind {
         34 => expect::counted(want, counts::count_sigops(input)),
         35 => expect::counted(want, counts::count_sigops_legacy(input)),
-        36 => dust(want, counts::minimal_non_dust(input)),
-        37 => dust(want, counts::minimal_non_dust_custom(input, rate)),
+        36 => dust(want, dust::minimal_non_dust(input)),
+        37 => dust(want, dust::minimal_non_dust_custom(input, rate)),
         _ => expect::MISS,
     }
 }

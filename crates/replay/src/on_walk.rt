@@ -135,7 +135,7 @@ fn entries(table: &[u32], want: &[u8], start: usize) -> usize {
 }
 
 fn positions_in(input: &[u8], mode: Mode, table: &mut [u32], want: &[u8]) -> usize {
-    let answer = walk::positions(input, mode, table);
+    let answer = places::positions(input, mode, table);
     let at = expect::counted(want, answer);
     entries(table, want, at)
 }

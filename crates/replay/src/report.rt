@@ -1,17 +1,17 @@
 // What is printed: the first record that differs, a line for each entry and each difference, and whether all agree.
-use crate::names;
+use crate::labels;
 
 pub(crate) fn first_differing(record: u64, at: usize, kind: u8) {
     show::text(b"record ");
     show::decimal(record);
     show::named(b"at byte", at);
     show::text(b" differs: ");
-    names::name(kind as usize);
+    labels::name(kind as usize);
     show::line_end();
 }
 
 fn line(k: usize, counts: &[u64; 54]) {
-    names::name(k);
+    labels::name(k);
     show::text(b" ");
     if k < 54 {
         show::decimal(counts[k]);

@@ -1,7 +1,4 @@
 pub mod Judging
-pub mod Program
-pub mod Runs
-pub mod Numbered
 pub mod Parts
 pub mod Order
 pub mod Spending

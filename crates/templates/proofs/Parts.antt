@@ -12,11 +12,11 @@ use lib.ListN.{length, getD}
 use Rattle.laws.specs.Said.{Said, answers, refuses}
 use Rattle.laws.proofs.Test.{by-test}
 use Rattle.refusal.specs.Refusal.{limit}
-use Rattle.walk.specs.Walk.{Walked, end, opcode, push, walkSays, nextAt}
-use Rattle.walk.specs.Run.{continue, walkFor, walkFrom, items, ending}
-use Rattle.walk.proofs.Good.{Good, good}
-use Rattle.templates.specs.Fixed.{isKeyOf, isPayToPubkey}
-use Rattle.templates.specs.Walked.{Stretch, stretch, unrefused, every, isPush, lastBody, redeemScript}
+use Rattle.script.specs.Walk.{Walked, end, opcode, push, walkSays, nextAt}
+use Rattle.script.specs.Run.{continue, walkFor, walkFrom, items, ending}
+use Rattle.script.proofs.Good.{Good, good}
+use Rattle.fixed.specs.Fixed.{isKeyOf, isPayToPubkey}
+use Rattle.walked.specs.Walked.{Stretch, stretch, unrefused, every, isPush, lastBody, redeemScript}
 use Rattle.templates.specs.Says.{judges, pubkeyOf, startOf, lenOf}
 use Rattle.laws.proofs.Test.{and-left, either}
 

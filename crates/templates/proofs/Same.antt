@@ -2,11 +2,9 @@
 use mathlib.Core.Path.{_≡_, refl, sym, ap, _∙_}
 use Rattle.refusal.proofs.Same.{same-refusal}
 use Rattle.templates.specs.Kind.{Kind, p2pkh, p2sh, p2wpkh, p2wsh, p2tr, p2a, witness, p2pk, multisig, opreturn, other}
-use Rattle.templates.specs.Answer.{saidVersion, saidPlace, saidCoded, saidTemplate, saidKind}
+use Rattle.templates.specs.Answer.{saidVersion, saidCoded, saidTemplate, saidKind}
 use Rattle.templates.specs.declared.Version.{Version}
 use Rattle.templates.specs.declared.Version.the-variants as version
-use Rattle.templates.specs.declared.Place.{Place}
-use Rattle.templates.specs.declared.Place.the-variants as place
 use Rattle.templates.specs.declared.Coded.{Coded}
 use Rattle.templates.specs.declared.Coded.the-variants as coded
 use Rattle.templates.specs.declared.Template.{Template}
@@ -24,17 +22,6 @@ same-version version.Nothing (version.Refused t) e = cc
 same-version (version.Refused r) (version.Is w) e = cc
 same-version (version.Refused r) version.Nothing e = cc
 same-version (version.Refused r) (version.Refused t) e = ap version.Refused (same-refusal r t e)
-
-pub same-place : (a b : Place) → saidPlace a ≡ saidPlace b → a ≡ b
-same-place (place.At p n) (place.At q m) e = cc
-same-place (place.At p n) place.Nothing e = cc
-same-place (place.At p n) (place.Refused t) e = cc
-same-place place.Nothing (place.At q m) e = cc
-same-place place.Nothing place.Nothing e = refl
-same-place place.Nothing (place.Refused t) e = cc
-same-place (place.Refused r) (place.At q m) e = cc
-same-place (place.Refused r) place.Nothing e = cc
-same-place (place.Refused r) (place.Refused t) e = ap place.Refused (same-refusal r t e)
 
 pub same-coded : (a b : Coded) → saidCoded a ≡ saidCoded b → a ≡ b
 same-coded (coded.Bytes n) (coded.Bytes m) e = cc

@@ -8,10 +8,11 @@ use Rattle.laws.proofs.Settled.{settled, same-value}
 use Rattle.refusal.specs.declared.Judged.{Judged}
 use Rattle.refusal.proofs.Same.{same-judged}
 use Rattle.templates.specs.declared.Version.{Version}
-use Rattle.templates.specs.declared.Place.{Place}
+use Rattle.walked.specs.declared.Place.{Place}
 use Rattle.templates.specs.declared.Coded.{Coded}
 use Rattle.templates.specs.declared.Kinded.{Kinded}
-use Rattle.templates.proofs.Same.{same-version, same-place, same-coded, same-kind}
+use Rattle.templates.proofs.Same.{same-version, same-coded, same-kind}
+use Rattle.walked.proofs.Same.{same-place}
 use Rattle.templates.proofs.judged.is_p2sh.Reads as is-p2sh
 use Rattle.templates.proofs.judged.is_p2pkh.Reads as is-p2pkh
 use Rattle.templates.proofs.judged.is_witness_program.Reads as is-witness-program

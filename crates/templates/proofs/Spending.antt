@@ -14,7 +14,7 @@ use Rattle.laws.specs.Said.{Said, answers, refuses}
 use Rattle.laws.specs.Buffer.{after}
 use Rattle.laws.proofs.Stored.{stored-both, stored-front}
 use Rattle.refusal.specs.Refusal.{limit}
-use Rattle.templates.specs.Fixed.{versionOf, isProgramOf, codeOf, scriptCode, isWitnessProgram}
+use Rattle.fixed.specs.Fixed.{versionOf, isProgramOf, codeOf, scriptCode, isWitnessProgram}
 use Rattle.templates.specs.Says.{written, codeSays}
 use Rattle.laws.proofs.Test.{and-right}
 

@@ -3,12 +3,9 @@ use mathlib.Core.Option.{Option, none, some}
 use Prim.Native.Nat.{ℕ}
 use Rattle.laws.specs.Said.{Said, answers}
 use Rattle.refusal.specs.Refusal.{saidRefusal}
-use Rattle.templates.specs.Walked.{Stretch, stretch}
 use Rattle.templates.specs.Kind.{Kind, p2pkh, p2sh, p2wpkh, p2wsh, p2tr, p2a, witness, p2pk, multisig, opreturn, other}
 use Rattle.templates.specs.declared.Version.{Version}
 use Rattle.templates.specs.declared.Version.the-variants as version
-use Rattle.templates.specs.declared.Place.{Place}
-use Rattle.templates.specs.declared.Place.the-variants as place
 use Rattle.templates.specs.declared.Coded.{Coded}
 use Rattle.templates.specs.declared.Coded.the-variants as coded
 use Rattle.templates.specs.declared.Template.{Template}
@@ -20,11 +17,6 @@ abbrev pub saidVersion : Version → Said (Option ℕ)
 saidVersion (version.Is v) = answers (some v)
 saidVersion version.Nothing = answers none
 saidVersion (version.Refused r) = saidRefusal r
-
-abbrev pub saidPlace : Place → Said (Option Stretch)
-saidPlace (place.At start len) = answers (some (stretch start len))
-saidPlace place.Nothing = answers none
-saidPlace (place.Refused r) = saidRefusal r
 
 abbrev pub saidCoded : Coded → Said (Option ℕ)
 saidCoded (coded.Bytes n) = answers (some n)

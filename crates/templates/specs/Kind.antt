@@ -3,7 +3,7 @@ use mathlib.Core.Bool.{Bool, true}
 use mathlib.Core.List.{List, [], _∷_}
 use Prim.Native.Nat.{ℕ}
 use Rattle.laws.specs.Choice.{if_then_else_}
-use Rattle.templates.specs.Fixed.{
+use Rattle.fixed.specs.Fixed.{
   isPayToPubkeyHash,
   isPayToScriptHash,
   isWitnessProgram,
@@ -14,7 +14,7 @@ use Rattle.templates.specs.Fixed.{
   isPayToPubkey,
   isOpReturn,
 }
-use Rattle.templates.specs.Walked.{isMultisig}
+use Rattle.walked.specs.Walked.{isMultisig}
 
 -- document 01's eleven kinds, in its order
 pub data Kind : Type 0 where

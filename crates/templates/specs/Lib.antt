@@ -1,5 +1,3 @@
-pub mod Fixed
-pub mod Walked
 pub mod Kind
 pub mod Says
 pub mod Answer

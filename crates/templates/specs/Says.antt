@@ -7,8 +7,8 @@ use Rattle.laws.specs.Choice.{if_then_else_}
 use Rattle.laws.specs.Said.{Said, answers, refuses}
 use Rattle.laws.specs.Buffer.{writes}
 use Rattle.refusal.specs.Refusal.{withinLimit}
-use Rattle.templates.specs.Fixed.{isPayToPubkey, isPayToWitnessPubkeyHash, scriptCode}
-use Rattle.templates.specs.Walked.{Stretch, stretch}
+use Rattle.fixed.specs.Fixed.{isPayToPubkey, isPayToWitnessPubkeyHash, scriptCode}
+use Rattle.walked.specs.Walked.{Stretch, stretch}
 
 -- refusal 1 for a script over the limit, else what f tells of it
 unfoldable pub judges : {A : Type 0} → (List ℕ → A) → List ℕ → Said A

@@ -1,15 +1,13 @@
 // Yes or no to each template. Every answer is refused with 1 for a script over the limit.
-use crate::fixed;
-use crate::fixed::HASH160_SIZE;
-use crate::fixed::HASH256_SIZE;
-use crate::walked;
+use fixed::HASH160_SIZE;
+use fixed::HASH256_SIZE;
 use refusal::Judged;
 use refusal::MAX_SCRIPT;
 use refusal::Refusal;
 ghost use mathlib.Core.Path.{_≡_};
 ghost use Rattle.refusal.specs.Answer.{saidJudged};
-ghost use Rattle.templates.specs.Fixed.{isPayToScriptHash, isPayToPubkeyHash, isPayToWitnessPubkeyHash, isPayToWitnessScriptHash, isPayToTaproot, isPayToAnchor, isPayToPubkey, isOpReturn, isWitnessProgram};
-ghost use Rattle.templates.specs.Walked.{isMultisig, isPushOnly};
+ghost use Rattle.fixed.specs.Fixed.{isPayToScriptHash, isPayToPubkeyHash, isPayToWitnessPubkeyHash, isPayToWitnessScriptHash, isPayToTaproot, isPayToAnchor, isPayToPubkey, isOpReturn, isWitnessProgram};
+ghost use Rattle.walked.specs.Walked.{isMultisig, isPushOnly};
 ghost use Rattle.templates.specs.Says.{judges};
 
 // The answer, unless the script is over the limit.

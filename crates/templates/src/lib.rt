@@ -15,15 +15,14 @@ ghost use Prim.Native.Nat.{_+_, _≤_};
 ghost use lib.ListN.{length, drop};
 ghost use Rattle.laws.specs.Buffer.{after};
 ghost use Rattle.walk.specs.Part.{Part};
-ghost use Rattle.templates.specs.Fixed.{isPayToPubkeyHash, witnessVersion, codeOf, scriptCode};
-ghost use Rattle.templates.specs.Walked.{redeemScript};
+ghost use Rattle.fixed.specs.Fixed.{isPayToPubkeyHash, witnessVersion, codeOf, scriptCode};
+ghost use Rattle.walked.specs.Walked.{redeemScript};
 ghost use Rattle.templates.specs.Kind.{kindOf};
 ghost use Rattle.templates.specs.Says.{judges, pubkeyOf, startOf, lenOf, codeSays};
-ghost use Rattle.templates.specs.Answer.{saidVersion, saidPlace, saidCoded, saidTemplate, saidKind};
+ghost use Rattle.templates.specs.Answer.{saidVersion, saidCoded, saidTemplate, saidKind};
+ghost use Rattle.walked.specs.Answer.{saidPlace};
 
-mod fixed;
 mod judged;
-mod walked;
 
 pub use judged::is_multisig;
 pub use judged::is_op_return;
@@ -36,6 +35,7 @@ pub use judged::is_p2wpkh;
 pub use judged::is_p2wsh;
 pub use judged::is_push_only;
 pub use judged::is_witness_program;
+pub use walked::Place;
 
 // Where the program stands in a witness program, behind the version and the length.
 pub const PROGRAM_START: usize = 2;
@@ -50,13 +50,6 @@ const HASH_END: usize = 23;
 // A witness version, 0 to 16.
 pub enum Version {
     Is(u8),
-    Nothing,
-    Refused(Refusal),
-}
-
-// Where bytes of a script lie.
-pub enum Place {
-    At { start: usize, len: usize },
     Nothing,
     Refused(Refusal),
 }

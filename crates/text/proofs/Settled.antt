@@ -4,12 +4,7 @@ use denote.Ref.{now}
 use Rattle.laws.proofs.Settled.{settled, same-value}
 use Rattle.refusal.specs.declared.Counted.{Counted}
 use Rattle.refusal.proofs.Same.{same-count}
-use Rattle.text.proofs.asm_len.Reads as asm-len
 use Rattle.text.proofs.write_asm.Reads as write-asm
 
-pub asm-len-settled : (κs : _) (a : _) (r t : Counted) (s u : _) → asm-len.Post κs a r s → asm-len.Post κs a t u → r ≡ t
-asm-len-settled κs a r t s u = settled same-count r t
-
--- the answer and the lent buffer
 pub write-asm-settled : (κs : _) (a : _) (r t : Counted) (s u : _) → write-asm.Post κs a r s → write-asm.Post κs a t u → (r ≡ t) × (now (s .1 .0) ≡ now (u .1 .0))
 write-asm-settled κs a r t s u p q = (settled same-count r t (p .0) (q .0), same-value (p .1) (q .1))

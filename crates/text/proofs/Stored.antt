@@ -7,7 +7,7 @@ use native.Mathlib.Omega.{arith}
 use lib.ListN.{length, set, getD, drop, length-append}
 use lib.Seq.{sets, length-sets, drop-cons}
 use Rattle.laws.proofs.Stored.{stored-both}
-use Rattle.text.specs.Asm.{hexDigit, hex}
+use Rattle.asm.specs.Asm.{hexDigit, hex}
 
 -- a run of w is still to be stored from n on in a buffer that has room for it; then it is what `old` becomes
 pub record Left (w old : List ℕ) (n : ℕ) (out rest : List ℕ) : Type 0 where

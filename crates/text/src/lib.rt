@@ -1,17 +1,14 @@
-// The text of a script, as the crate's `fmt_asm` writes it: a measured pass, then a writing pass.
+// The text of a script, as the crate's `fmt_asm` writes it: measured first, then written.
+pub use measure::asm_len;
+use measure::data_len;
+use measure::length_bytes_after;
 use put::put_data;
 use put::put_opcode;
 use put::put_push_past_end;
 use put::put_space;
 use put::put_unexpected_end;
 use refusal::Counted;
-use refusal::MAX_SCRIPT;
 use refusal::Refusal;
-use size::data_len;
-use size::data_text_len;
-use size::length_bytes_after;
-use size::opcode_text_len;
-use size::space_len;
 ghost use mathlib.Core.Path.{_≡_};
 ghost use Prim.Native.Nat.{_≤_};
 ghost use lib.ListN.{length};
@@ -19,65 +16,13 @@ ghost use lib.Seq.{sets};
 ghost use Rattle.laws.specs.Buffer.{after};
 ghost use Rattle.refusal.specs.Refusal.{limit};
 ghost use Rattle.refusal.specs.Answer.{saidCount};
-ghost use Rattle.opcodes.specs.Pool.{poolOfNames, startsOfNames, lengthsOfNames};
-ghost use Rattle.text.specs.Asm.{textOf, asmLenSays, asmSays};
+ghost use Rattle.pool.specs.Pool.{poolOfNames, startsOfNames, lengthsOfNames};
+ghost use Rattle.asm.specs.Asm.{textOf, asmSays};
 
 mod put;
-mod size;
 
-// How many bytes the mark for cut length bytes has.
-const UNEXPECTED_END_LEN: usize = 16;
-
-// How many bytes the mark for a cut body has, with the space before it.
-const PUSH_PAST_END_LEN: usize = 16;
-
-// How many bytes the text has. The loop over instructions is left from inside the length step or the hex step where a push is cut.
-fn measure(script: &[u8], lengths: &[u8; 256]) -> usize
-    requires { ⌜ (length (now script) ≤ limit) × (now lengths ≡ lengthsOfNames) ⌝ }
-    ensures { λ r. ⌜ r ≡ length (textOf (now (script .entry))) ⌝ }
-{
-    let mut n: usize = 0;
-    let mut at: usize = 0;
-    'script: while at < script.len() {
-        let code = script[at];
-        let k = length_bytes_after(code);
-        let mut stated: usize = 0;
-        let mut i = k;
-        // The length step, from the last length byte to the first.
-        while 0 < i {
-            if script.len() - at <= i {
-                n += UNEXPECTED_END_LEN;
-                break 'script;
-            }
-            stated = stated * 256 + (script[at + i] as usize);
-            i -= 1;
-        }
-        let body = at + 1 + k;
-        let len = data_len(code, stated);
-        n += space_len(at) + opcode_text_len(lengths, code);
-        // The hex step.
-        if script.len() - body < len {
-            n += PUSH_PAST_END_LEN;
-            break 'script;
-        }
-        n += data_text_len(len);
-        at = body + len;
-    }
-    n
-}
-
-// The text's length. Refused with 1 for a script over the limit.
-pub fn asm_len(script: &[u8]) -> Counted
-    ensures { λ r. ⌜ saidCount r ≡ asmLenSays (now (script .entry)) ⌝ }
-{
-    if MAX_SCRIPT < script.len() {
-        return Counted::Refused(Refusal::TooLong);
-    }
-    let lengths = opcodes::name_lengths();
-    Counted::Count(measure(script, &lengths))
-}
-
-// Writes the text to the front of a buffer that has room for it. The loop over instructions is left as in `measure`.
+// Writes the text to the front of a buffer that has room for it. The loop over instructions is left from inside the length step or the hex step
+// where a push is cut.
 fn write_text(script: &[u8], pool: &[u8], starts: &[u16; 256], lengths: &[u8; 256], out: &mut [u8])
     requires { ⌜ (length (now script) ≤ limit) × (length (textOf (now script)) ≤ length (now out)) × (now pool ≡ poolOfNames) × (now starts ≡ startsOfNames) × (now lengths ≡ lengthsOfNames) ⌝ }
     ensures { λ _. ⌜ now (out .exit) ≡ sets (now (out .entry)) 0 (textOf (now (script .entry))) ⌝ }
@@ -119,16 +64,18 @@ pub fn write_asm(script: &[u8], out: &mut [u8]) -> Counted
     ensures answer { λ r. ⌜ saidCount r ≡ asmSays (now (script .entry)) (length (now (out .entry))) ⌝ }
     ensures left { λ r. ⌜ now (out .exit) ≡ after (asmSays (now (script .entry)) (length (now (out .entry)))) (textOf (now (script .entry))) (now (out .entry)) ⌝ }
 {
-    if MAX_SCRIPT < script.len() {
-        return Counted::Refused(Refusal::TooLong);
+    let measured = asm_len(script);
+    match measured {
+        Counted::Refused(why) => Counted::Refused(why),
+        Counted::Count(needed) => {
+            if out.len() < needed {
+                return Counted::Refused(Refusal::NoRoom(needed));
+            }
+            let pool = pool::name_pool();
+            let starts = pool::name_starts();
+            let lengths = pool::name_lengths();
+            write_text(script, &pool, &starts, &lengths, out);
+            Counted::Count(needed)
+        }
     }
-    let pool = opcodes::name_pool();
-    let starts = opcodes::name_starts();
-    let lengths = opcodes::name_lengths();
-    let needed = measure(script, &lengths);
-    if out.len() < needed {
-        return Counted::Refused(Refusal::NoRoom(needed));
-    }
-    write_text(script, &pool, &starts, &lengths, out);
-    Counted::Count(needed)
 }

@@ -3,9 +3,9 @@ ghost use mathlib.Core.Path.{_≡_};
 ghost use Prim.Native.Nat.{_+_, _≤_, _<_};
 ghost use lib.ListN.{length};
 ghost use lib.Seq.{sets};
-ghost use Rattle.opcodes.specs.Text.{text};
-ghost use Rattle.opcodes.specs.Pool.{poolOfNames, startsOfNames, lengthsOfNames};
-ghost use Rattle.text.specs.Asm.{hexDigit, hex, opcodeText, dataText, spaceAt};
+ghost use Rattle.pool.specs.Text.{text};
+ghost use Rattle.pool.specs.Pool.{poolOfNames, startsOfNames, lengthsOfNames};
+ghost use Rattle.asm.specs.Asm.{hexDigit, hex, opcodeText, dataText, spaceAt};
 
 // Stores bytes from n on; the place behind them.
 fn put_bytes(out: &mut [u8], n: usize, piece: &[u8]) -> usize
@@ -75,7 +75,7 @@ pub(crate) fn put_opcode(
     if code == 0 {
         return put_bytes(out, n, b"OP_0");
     }
-    put_bytes(out, n, opcodes::name_in(pool, starts, lengths, code))
+    put_bytes(out, n, names::name_in(pool, starts, lengths, code))
 }
 
 // Stores a push's data, a space before them; nothing for no data. The place behind them.

@@ -1,14 +1,3 @@
-pub mod Little
-pub mod Minimal
-pub mod Step
-pub mod Good
-pub mod Run
-pub mod Sized
-pub mod Places
+pub mod Turn
 pub mod Settled
 pub mod AdvanceSettled
-pub mod Encoding
-pub mod Reading
-pub mod Exactly
-pub mod Handed
-pub mod Core

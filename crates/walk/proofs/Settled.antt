@@ -5,8 +5,7 @@ use mathlib.Core.List.{List}
 use Prim.Native.Nat.{ℕ}
 use denote.Ref.{RefT, now, ptr}
 use Rattle.laws.proofs.Settled.{settled, same-value}
-use Rattle.refusal.specs.declared.Counted.{Counted}
-use Rattle.refusal.proofs.Same.{same-refusal, same-count}
+use Rattle.refusal.proofs.Same.{same-refusal}
 use Rattle.opcodes.proofs.Same.{same-form}
 use Rattle.walk.specs.Answer.{saidFound}
 use Rattle.walk.specs.declared.Cursor.{Cursor}
@@ -16,7 +15,6 @@ use Rattle.walk.specs.declared.Stepped.{Stepped}
 use Rattle.walk.proofs.Cursor.new.Reads as new
 use Rattle.walk.proofs.Cursor.next.Reads as next
 use Rattle.walk.proofs.Cursor.size.Reads as size
-use Rattle.walk.proofs.table.positions.Reads as positions
 use Rattle.walk.proofs.part.body.Reads as body
 
 pub same-found : (a b : Found) → saidFound a ≡ saidFound b → a ≡ b
@@ -51,10 +49,6 @@ size-settled κs a r t s u = same-value
 
 pub next-settled : (κs : _) (a : _) (r t : Stepped) (s u : _) → next.Post κs a r s → next.Post κs a t u → r ≡ t
 next-settled κs a r t s u p q = ap₂ stepped (settled same-found (r .found) (t .found) (p .0) (q .0)) (same-value (p .1) (q .1))
-
-pub positions-settled : (κs : _) (a : _) (r t : Counted) (s u : _) → positions.Post κs a r s → positions.Post κs a t u
-    → (r ≡ t) × (now (s .1 .1 .0) ≡ now (u .1 .1 .0))
-positions-settled κs a r t s u p q = (settled same-count r t (p .0) (q .0), same-value (p .1) (q .1))
 
 pub body-settled : (κs : _) (a : _) (r t : RefT (List ℕ)) (s u : _) → body.Post κs a r s → body.Post κs a t u → (now r ≡ now t) × (ptr r ≡ ptr t)
 body-settled κs a r t s u p q = (same-value (p .bytes) (q .bytes), same-value (p .lies) (q .lies))

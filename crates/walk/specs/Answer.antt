@@ -3,7 +3,7 @@ use mathlib.Core.Bool.{Bool, true, false}
 use Rattle.laws.specs.Said.{Said, answers}
 use Rattle.refusal.specs.Refusal.{saidRefusal}
 use Rattle.opcodes.specs.Opcode.{saidForm}
-use Rattle.walk.specs.Walk.{Walked, end, opcode, push}
+use Rattle.script.specs.Walk.{Walked, end, opcode, push}
 use Rattle.walk.specs.declared.Mode.{Mode}
 use Rattle.walk.specs.declared.Mode.the-variants.{Plain, Minimal}
 use Rattle.walk.specs.declared.Found.{Found}

@@ -1,9 +1,3 @@
-pub mod Script
-pub mod Walk
-pub mod Instruction
-pub mod Calls
-pub mod Run
-pub mod Places
 pub mod Part
 pub mod Answer
 pub mod Steps

@@ -5,7 +5,7 @@ use Prim.Native.Nat.{ℕ, _+_}
 use lib.ListN.{take, drop}
 use denote.Ref.{RefT, ptr, now}
 use Rattle.laws.specs.Said.{Said, answers, refuses}
-use Rattle.walk.specs.Walk.{Walked, end, opcode, push}
+use Rattle.script.specs.Walk.{Walked, end, opcode, push}
 
 -- the n bytes of s from b on, where they lie
 pub record Part (r s : RefT (List ℕ)) (b n : ℕ) : Type 0 where

@@ -3,7 +3,7 @@ use crate::Cursor;
 use crate::Found;
 use crate::Mode;
 ghost use mathlib.Core.Path.{_≡_};
-ghost use Rattle.walk.specs.Walk.{walkSays, nextAt};
+ghost use Rattle.script.specs.Walk.{walkSays, nextAt};
 ghost use Rattle.walk.specs.Answer.{saidFound, isMinimal};
 
 // What stands at the cursor, which then stands where the next call is to go on: the by-value step `Cursor::next`, run once, its

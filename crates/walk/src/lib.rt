@@ -2,7 +2,6 @@
 mod lent;
 mod part;
 mod push;
-mod table;
 
 pub use lent::advance;
 use opcodes::Class;
@@ -11,11 +10,10 @@ pub use part::body;
 use push::push_at;
 use push::push_size;
 use refusal::Refusal;
-pub use table::positions;
 ghost use mathlib.Core.Path.{_≡_};
 ghost use Prim.Native.Nat.{_+_, _<_};
 ghost use Rattle.refusal.specs.Refusal.{limit};
-ghost use Rattle.walk.specs.Walk.{walkSays, nextAt, sizeSaid};
+ghost use Rattle.script.specs.Walk.{walkSays, nextAt, sizeSaid};
 ghost use Rattle.walk.specs.Answer.{saidFound, isMinimal};
 
 // Plain takes every whole push; Minimal refuses a push that has a shorter form.

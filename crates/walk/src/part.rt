@@ -4,7 +4,7 @@ use crate::Found;
 use crate::Mode;
 ghost use lib.ListN.{length};
 ghost use Rattle.walk.specs.Part.{Part, bodyPlace, bodyLen};
-ghost use Rattle.walk.specs.Walk.{walkSays};
+ghost use Rattle.script.specs.Walk.{walkSays};
 ghost use Rattle.walk.specs.Answer.{isMinimal};
 ghost use Rattle.walk.specs.Steps.{Spans};
 

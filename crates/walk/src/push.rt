@@ -10,10 +10,10 @@ ghost use Prim.Native.Nat.{_+_, _≤_, _<_};
 ghost use lib.ListN.{length, getD};
 ghost use Rattle.opcodes.specs.Opcode.{sortOf, push, saidForm};
 ghost use Rattle.refusal.specs.Refusal.{limit};
-ghost use Rattle.walk.specs.Script.{readLE};
-ghost use Rattle.walk.specs.Walk.{walkSays, nextAt, sizeSaid};
+ghost use Rattle.script.specs.Script.{readLE};
+ghost use Rattle.script.specs.Walk.{walkSays, nextAt, sizeSaid};
 ghost use Rattle.walk.specs.Answer.{saidFound, isMinimal};
-ghost use Rattle.walk.specs.Steps.{stated, isNumber, tooShort};
+ghost use Rattle.script.specs.Steps.{stated, isNumber, tooShort};
 
 // The shortest body that needs each length form, which is what minimal mode wants of it.
 const LEAST_PUSHDATA1: usize = 76;

@@ -88,7 +88,7 @@ fn positions_line(script: &[u8], mode: Mode, table: &mut [u32]) {
     show::named(b"bytes", script.len());
     show::named(b"room", table.len());
     show::text(b":");
-    show::counted(walk::positions(script, mode, table));
+    show::counted(places::positions(script, mode, table));
     show::text(b" first");
     if 2 < table.len() {
         entry(table[0]);

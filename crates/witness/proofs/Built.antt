@@ -11,7 +11,7 @@ use lib.ListN.{length}
 use Rattle.laws.specs.Choice.{if_then_else_}
 use Rattle.laws.specs.Buffer.{writes}
 use Rattle.laws.proofs.Test.{by-test}
-use Rattle.templates.specs.Fixed.{versionOf, witnessVersion, isWitnessProgram}
+use Rattle.fixed.specs.Fixed.{versionOf, witnessVersion, isWitnessProgram}
 use Rattle.witness.specs.Program.{versionByte, wrongV0, witnessBytes, witnessSays, programOf}
 
 pub bytes-length : (version : ℕ) (program : List ℕ) → length (witnessBytes version program) ≡ length program + 2

@@ -9,7 +9,7 @@ use borrow.Author.Needs.{needs}
 use borrow.Author.Tests.{lt-ltb, le-ltb}
 use lib.ListN.{length}
 use Rattle.laws.specs.Said.{answers}
-use Rattle.walk.proofs.Run.{moves-at, says-at, good-at}
+use Rattle.walk.proofs.Turn.{moves-at, says-at, good-at}
 use Rattle.counts.specs.Count.{countSays, getSigOpCount}
 use Rattle.counts.proofs.Turns.{Counting, begins, stops, after-opcode, after-push, end-fails, refused-fails}
 use Rattle.counts.proofs.count.Statement.{statement}

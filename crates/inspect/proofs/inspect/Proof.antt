@@ -5,10 +5,10 @@ use native.Mathlib.Omega.{arith}
 use borrow.Author.Needs.{needs}
 use borrow.Author.Tests.{ltb-false}
 use lib.ListN.{length}
-use Rattle.text.specs.Asm.{textOf}
-use Rattle.inspect.specs.Screen.{most, screenOf, inspectSays}
+use Rattle.asm.specs.Asm.{textOf}
+use Rattle.screen.specs.Screen.{most, screenOf, inspectSays}
 use Rattle.inspect.proofs.Room.{no-room, room}
-use Rattle.inspect.proofs.Whole.{over, within-length, written}
+use Rattle.screen.proofs.Whole.{over, within-length, written}
 use Rattle.inspect.proofs.inspect.Statement.{statement}
 use Rattle.inspect.proofs.inspect.Tie as tie
 

@@ -4,8 +4,8 @@ use mathlib.Core.List.{List}
 use Prim.Native.Nat.{ℕ}
 use borrow.Author.Needs.{needs}
 use Rattle.laws.proofs.Stored.{copied}
-use Rattle.opcodes.specs.Text.{digits, decimal}
-use Rattle.inspect.specs.Screen.{most, line}
+use Rattle.pool.specs.Text.{digits, decimal}
+use Rattle.screen.specs.Screen.{most, line}
 use Rattle.inspect.proofs.Room.{no-room, room}
 use Rattle.inspect.proofs.write_refused.Statement.{statement}
 use Rattle.inspect.proofs.write_refused.Tie as tie

@@ -6,8 +6,8 @@ use borrow.Author.Needs.{needs}
 use lib.ListN.{length, drop, length-append}
 use Rattle.laws.specs.Said.{answers}
 use Rattle.refusal.specs.Answer.{saidCount}
-use Rattle.inspect.specs.Screen.{screenOf, inspectSays}
-use Rattle.inspect.proofs.Short.{has-room}
+use Rattle.screen.specs.Screen.{screenOf, inspectSays}
+use Rattle.screen.proofs.Short.{has-room}
 use Rattle.laws.proofs.Answered.{answered, not-refused}
 use Rattle.inspector.proofs.screen.Statement.{statement}
 use Rattle.inspector.proofs.screen.Tie as tie

@@ -8,12 +8,12 @@ use borrow.Author.Needs.{needs}
 use lib.ListN.{length, getD, take, drop}
 use lib.Seq.{length-sets}
 use Rattle.opcodes.specs.Opcode.{sortOf}
-use Rattle.opcodes.specs.Text.{text}
-use Rattle.walk.specs.Instruction.{Bytes}
-use Rattle.text.specs.Asm.{opcodeText, dataText, spaceAt, dataLen, textFrom, textOf}
+use Rattle.pool.specs.Text.{text}
+use Rattle.script.specs.Instruction.{Bytes}
+use Rattle.asm.specs.Asm.{opcodeText, dataText, spaceAt, dataLen, textFrom, textOf}
 use Rattle.text.proofs.Stored.{Left, begin, on, fits, equal, last}
-use Rattle.text.proofs.LengthStep.{Stated, few-after, none-yet, cut, more, all, whole}
-use Rattle.text.proofs.Turn.{ends, says, length-cut, behind, opened, behind-cut, behind-whole}
+use Rattle.asm.proofs.LengthStep.{Stated, few-after, none-yet, cut, more, all, whole}
+use Rattle.asm.proofs.Turn.{ends, says, length-cut, behind, opened, behind-cut, behind-whole}
 use Rattle.text.proofs.write_text.Statement.{statement}
 use Rattle.text.proofs.write_text.Tie as tie
 

@@ -1,7 +1,7 @@
 -- `boundary::amounts::bb_asm_len` meets its contract: what the entry says is handed over. Assumes nothing.
 use borrow.Author.Needs.{needs}
-use Rattle.boundary.specs.Handed.{one}
-use Rattle.boundary.proofs.Handing.{says-as}
+use Rattle.hand.specs.Handed.{one}
+use Rattle.hand.proofs.Handing.{says-as}
 use Rattle.boundary.proofs.amounts.bb_asm_len.Statement.{statement}
 use Rattle.boundary.proofs.amounts.bb_asm_len.Tie as tie
 

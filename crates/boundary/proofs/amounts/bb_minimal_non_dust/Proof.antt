@@ -1,7 +1,7 @@
 -- `boundary::amounts::bb_minimal_non_dust` meets its contract: what the entry says is handed over. Assumes nothing.
 use borrow.Author.Needs.{needs}
-use Rattle.boundary.specs.Handed.{one}
-use Rattle.boundary.proofs.Handing.{says-as}
+use Rattle.hand.specs.Handed.{one}
+use Rattle.hand.proofs.Handing.{says-as}
 use Rattle.boundary.proofs.amounts.bb_minimal_non_dust.Statement.{statement}
 use Rattle.boundary.proofs.amounts.bb_minimal_non_dust.Tie as tie
 

@@ -3,9 +3,9 @@ use mathlib.Core.Path.{ap, _∙_}
 use borrow.Author.Needs.{needs}
 use Rattle.laws.specs.Said.{answers}
 use Rattle.opcodes.specs.Opcode.{saidCode}
-use Rattle.builder.specs.Lent.{shown}
-use Rattle.boundary.specs.Handed.{one}
-use Rattle.boundary.proofs.Handing.{says-as}
+use Rattle.building.specs.Lent.{shown}
+use Rattle.hand.specs.Handed.{one}
+use Rattle.hand.proofs.Handing.{says-as}
 use Rattle.boundary.proofs.Shown.{shown-length}
 use Rattle.boundary.proofs.build.bb_builder_as_bytes.Statement.{statement}
 use Rattle.boundary.proofs.build.bb_builder_as_bytes.Tie as tie

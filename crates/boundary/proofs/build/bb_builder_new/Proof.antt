@@ -3,8 +3,8 @@ use mathlib.Core.Path.{_≡_, ap, _∙_}
 use mathlib.Core.List.{[], _∷_}
 use Prim.Native.Nat.{ℕ}
 use borrow.Author.Needs.{needs}
-use Rattle.boundary.specs.Handed.{rememberedAs}
-use Rattle.boundary.proofs.Handing.{gives-as}
+use Rattle.hand.specs.Handed.{rememberedAs}
+use Rattle.hand.proofs.Handing.{gives-as}
 use Rattle.boundary.proofs.build.bb_builder_new.Statement.{statement}
 use Rattle.boundary.proofs.build.bb_builder_new.Tie as tie
 

@@ -2,9 +2,9 @@
 use mathlib.Core.Path.{ap, _∙_}
 use borrow.Author.Needs.{needs}
 use lib.IntN.{pos}
-use Rattle.builder.specs.Builder.{pushInt}
-use Rattle.builder.specs.Lent.{Outcome}
-use Rattle.boundary.proofs.Handing.{builds-short, builds-as, calls-as, kept, changed}
+use Rattle.building.specs.Builder.{pushInt}
+use Rattle.building.specs.Lent.{Outcome}
+use Rattle.hand.proofs.Handing.{builds-short, builds-as, calls-as, kept, changed}
 use Rattle.boundary.proofs.build.bb_builder_push_sequence.Statement.{statement}
 use Rattle.boundary.proofs.build.bb_builder_push_sequence.Tie as tie
 

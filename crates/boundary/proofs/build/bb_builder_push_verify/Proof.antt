@@ -1,9 +1,9 @@
 -- `boundary::build::bb_builder_push_verify` meets its contract: what the call leaves is handed over. Assumes nothing.
 use mathlib.Core.Path.{ap, _∙_}
 use borrow.Author.Needs.{needs}
-use Rattle.builder.specs.Builder.{pushVerify}
-use Rattle.builder.specs.Lent.{Outcome}
-use Rattle.boundary.proofs.Handing.{builds-short, builds-as, calls-as, kept, changed}
+use Rattle.building.specs.Builder.{pushVerify}
+use Rattle.building.specs.Lent.{Outcome}
+use Rattle.hand.proofs.Handing.{builds-short, builds-as, calls-as, kept, changed}
 use Rattle.boundary.proofs.build.bb_builder_push_verify.Statement.{statement}
 use Rattle.boundary.proofs.build.bb_builder_push_verify.Tie as tie
 

@@ -1,6 +1,6 @@
 -- `boundary::build::bb_builder_start` meets its contract. Assumes nothing.
 use borrow.Author.Needs.{needs}
-use Rattle.boundary.proofs.Handing.{builds-as}
+use Rattle.hand.proofs.Handing.{builds-as}
 use Rattle.boundary.proofs.build.bb_builder_start.Statement.{statement}
 use Rattle.boundary.proofs.build.bb_builder_start.Tie as tie
 

@@ -2,8 +2,8 @@
 use mathlib.Core.Path.{ap}
 use borrow.Author.Needs.{needs}
 use Rattle.laws.specs.Said.{answers}
-use Rattle.boundary.specs.Handed.{sortRow}
-use Rattle.boundary.proofs.Handing.{says-as}
+use Rattle.hand.specs.Handed.{sortRow}
+use Rattle.hand.proofs.Handing.{says-as}
 use Rattle.boundary.proofs.codes.bb_classify.Statement.{statement}
 use Rattle.boundary.proofs.codes.bb_classify.Tie as tie
 

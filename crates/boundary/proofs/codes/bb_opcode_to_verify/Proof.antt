@@ -2,8 +2,8 @@
 use mathlib.Core.Path.{ap}
 use borrow.Author.Needs.{needs}
 use Rattle.laws.specs.Said.{answers}
-use Rattle.boundary.specs.Handed.{one, maybe}
-use Rattle.boundary.proofs.Handing.{says-as}
+use Rattle.hand.specs.Handed.{one, maybe}
+use Rattle.hand.proofs.Handing.{says-as}
 use Rattle.boundary.proofs.codes.bb_opcode_to_verify.Statement.{statement}
 use Rattle.boundary.proofs.codes.bb_opcode_to_verify.Tie as tie
 

@@ -1,7 +1,7 @@
 -- `boundary::codes::bb_read_scriptbool` meets its contract: what the entry says is handed over. Assumes nothing.
 use borrow.Author.Needs.{needs}
-use Rattle.boundary.specs.Handed.{yes}
-use Rattle.boundary.proofs.Handing.{says-as}
+use Rattle.hand.specs.Handed.{yes}
+use Rattle.hand.proofs.Handing.{says-as}
 use Rattle.boundary.proofs.codes.bb_read_scriptbool.Statement.{statement}
 use Rattle.boundary.proofs.codes.bb_read_scriptbool.Tie as tie
 

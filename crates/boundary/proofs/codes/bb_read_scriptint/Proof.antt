@@ -1,6 +1,6 @@
 -- `boundary::codes::bb_read_scriptint` meets its contract: what the entry says is handed over. Assumes nothing.
 use borrow.Author.Needs.{needs}
-use Rattle.boundary.proofs.Handing.{reads-as}
+use Rattle.hand.proofs.Handing.{reads-as}
 use Rattle.boundary.proofs.codes.bb_read_scriptint.Statement.{statement}
 use Rattle.boundary.proofs.codes.bb_read_scriptint.Tie as tie
 

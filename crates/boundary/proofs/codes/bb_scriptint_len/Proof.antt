@@ -3,8 +3,8 @@ use mathlib.Core.Path.{ap, _∙_}
 use borrow.Author.Needs.{needs}
 use mir.Facts.{toZ-ofZ}
 use Rattle.numbers.specs.Answer.{lenSays}
-use Rattle.boundary.specs.Handed.{one}
-use Rattle.boundary.proofs.Handing.{says-as}
+use Rattle.hand.specs.Handed.{one}
+use Rattle.hand.proofs.Handing.{says-as}
 use Rattle.boundary.proofs.codes.bb_scriptint_len.Statement.{statement}
 use Rattle.boundary.proofs.codes.bb_scriptint_len.Tie as tie
 

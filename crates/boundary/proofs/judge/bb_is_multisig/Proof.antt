@@ -1,7 +1,7 @@
 -- `boundary::judge::bb_is_multisig` meets its contract: what the entry says is handed over. Assumes nothing.
 use borrow.Author.Needs.{needs}
-use Rattle.boundary.specs.Handed.{yes}
-use Rattle.boundary.proofs.Handing.{says-as}
+use Rattle.hand.specs.Handed.{yes}
+use Rattle.hand.proofs.Handing.{says-as}
 use Rattle.boundary.proofs.judge.bb_is_multisig.Statement.{statement}
 use Rattle.boundary.proofs.judge.bb_is_multisig.Tie as tie
 

@@ -1,7 +1,7 @@
 -- `boundary::judge::bb_kind` meets its contract: what the entry says is handed over. Assumes nothing.
 use borrow.Author.Needs.{needs}
-use Rattle.boundary.specs.Handed.{kindRow}
-use Rattle.boundary.proofs.Handing.{says-as}
+use Rattle.hand.specs.Handed.{kindRow}
+use Rattle.hand.proofs.Handing.{says-as}
 use Rattle.boundary.proofs.judge.bb_kind.Statement.{statement}
 use Rattle.boundary.proofs.judge.bb_kind.Tie as tie
 

@@ -1,7 +1,7 @@
 -- `boundary::judge::bb_p2pk_key` meets its contract: what the entry says is handed over. Assumes nothing.
 use borrow.Author.Needs.{needs}
-use Rattle.boundary.specs.Handed.{maybe, twoOf}
-use Rattle.boundary.proofs.Handing.{says-as}
+use Rattle.hand.specs.Handed.{maybe, twoOf}
+use Rattle.hand.proofs.Handing.{says-as}
 use Rattle.boundary.proofs.judge.bb_p2pk_key.Statement.{statement}
 use Rattle.boundary.proofs.judge.bb_p2pk_key.Tie as tie
 

@@ -3,7 +3,7 @@ use mathlib.Core.Path.{ap}
 use mathlib.Core.List.{[], _∷_}
 use borrow.Author.Needs.{needs}
 use Rattle.templates.specs.Says.{startOf, lenOf}
-use Rattle.boundary.proofs.Handing.{gives-as}
+use Rattle.hand.proofs.Handing.{gives-as}
 use Rattle.boundary.proofs.judge.bb_redeem_part.Statement.{statement}
 use Rattle.boundary.proofs.judge.bb_redeem_part.Tie as tie
 

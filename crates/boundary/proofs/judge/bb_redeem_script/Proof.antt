@@ -1,7 +1,7 @@
 -- `boundary::judge::bb_redeem_script` meets its contract: what the entry says is handed over. Assumes nothing.
 use borrow.Author.Needs.{needs}
-use Rattle.boundary.specs.Handed.{maybe, twoOf}
-use Rattle.boundary.proofs.Handing.{says-as}
+use Rattle.hand.specs.Handed.{maybe, twoOf}
+use Rattle.hand.proofs.Handing.{says-as}
 use Rattle.boundary.proofs.judge.bb_redeem_script.Statement.{statement}
 use Rattle.boundary.proofs.judge.bb_redeem_script.Tie as tie
 

@@ -1,7 +1,7 @@
 -- `boundary::judge::bb_witness_version` meets its contract: what the entry says is handed over. Assumes nothing.
 use borrow.Author.Needs.{needs}
-use Rattle.boundary.specs.Handed.{one, maybe}
-use Rattle.boundary.proofs.Handing.{says-as}
+use Rattle.hand.specs.Handed.{one, maybe}
+use Rattle.hand.proofs.Handing.{says-as}
 use Rattle.boundary.proofs.judge.bb_witness_version.Statement.{statement}
 use Rattle.boundary.proofs.judge.bb_witness_version.Tie as tie
 

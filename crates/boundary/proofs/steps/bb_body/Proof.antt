@@ -1,20 +1,10 @@
--- `boundary::steps::bb_body` meets its contract. Assumes nothing.
-use mathlib.Core.Path.{ap, _∙_}
-use mathlib.Core.List.{[], _∷_}
+-- `boundary::steps::bb_body` meets its contract, which is that of `step::body`. Assumes nothing.
 use borrow.Author.Needs.{needs}
-use Rattle.walk.specs.Walk.{walkSays}
-use Rattle.walk.specs.Part.{bodyPlace, bodyLen}
-use Rattle.boundary.proofs.Handing.{gives-as}
 use Rattle.boundary.proofs.steps.bb_body.Statement.{statement}
 use Rattle.boundary.proofs.steps.bb_body.Tie as tie
 
 returns : tie.Need-returns
-returns c =
-    let n = c .before .before .before .before in
-    let m = n .before .mode-of .ensures in
-    let s = n .before .before .before .before in
-    gives-as 2 _ (c .before .before .body-of .ensures) (ap (λ s. bodyPlace s ∷ (bodyLen s ∷ [])) (n .next .ensures .0 ∙ ap (λ b. walkSays b (s .args .script .now) (s .args .at)) m))
+returns c = c .before .before .body .ensures
 
 pub bb-body-spec : {M : Type 1} → statement M
-bb-body-spec =
-    tie.close (tie.spec (λ c κs. search needs) (λ c κs. search needs) (λ c κs. search needs) (λ c. search needs) returns)
+bb-body-spec = tie.close (tie.spec (λ c κs. search needs) (λ c. search needs) returns)

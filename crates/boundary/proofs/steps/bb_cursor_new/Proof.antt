@@ -2,8 +2,8 @@
 use mathlib.Core.Path.{ap}
 use borrow.Author.Needs.{needs}
 use Rattle.laws.specs.Said.{answers}
-use Rattle.boundary.specs.Handed.{one}
-use Rattle.boundary.proofs.Handing.{says-as}
+use Rattle.hand.specs.Handed.{one}
+use Rattle.hand.proofs.Handing.{says-as}
 use Rattle.boundary.proofs.steps.bb_cursor_new.Statement.{statement}
 use Rattle.boundary.proofs.steps.bb_cursor_new.Tie as tie
 

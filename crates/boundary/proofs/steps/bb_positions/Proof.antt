@@ -3,9 +3,9 @@ use mathlib.Core.Path.{ap, _∙_}
 use borrow.Author.Needs.{needs}
 use lib.ListN.{length}
 use Rattle.laws.specs.Buffer.{after}
-use Rattle.walk.specs.Places.{placesOf, positionsSay}
-use Rattle.boundary.specs.Handed.{one}
-use Rattle.boundary.proofs.Handing.{says-short, says-as, kept, changed}
+use Rattle.places.specs.Places.{placesOf, positionsSay}
+use Rattle.hand.specs.Handed.{one}
+use Rattle.hand.proofs.Handing.{says-short, says-as, kept, changed}
 use Rattle.boundary.proofs.steps.bb_positions.Statement.{statement}
 use Rattle.boundary.proofs.steps.bb_positions.Tie as tie
 

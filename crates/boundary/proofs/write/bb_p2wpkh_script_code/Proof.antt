@@ -1,7 +1,7 @@
 -- `boundary::write::bb_p2wpkh_script_code` meets its contract: what the entry says is handed over, and what it wrote stays. Assumes nothing.
 use borrow.Author.Needs.{needs}
-use Rattle.boundary.specs.Handed.{one, maybe}
-use Rattle.boundary.proofs.Handing.{says-short, says-as, kept, changed}
+use Rattle.hand.specs.Handed.{one, maybe}
+use Rattle.hand.proofs.Handing.{says-short, says-as, kept, changed}
 use Rattle.boundary.proofs.write.bb_p2wpkh_script_code.Statement.{statement}
 use Rattle.boundary.proofs.write.bb_p2wpkh_script_code.Tie as tie
 

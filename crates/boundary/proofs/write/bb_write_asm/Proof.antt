@@ -1,7 +1,7 @@
 -- `boundary::write::bb_write_asm` meets its contract: what the entry says is handed over, and what it wrote stays. Assumes nothing.
 use borrow.Author.Needs.{needs}
-use Rattle.boundary.specs.Handed.{one}
-use Rattle.boundary.proofs.Handing.{says-short, says-as, kept, changed}
+use Rattle.hand.specs.Handed.{one}
+use Rattle.hand.proofs.Handing.{says-short, says-as, kept, changed}
 use Rattle.boundary.proofs.write.bb_write_asm.Statement.{statement}
 use Rattle.boundary.proofs.write.bb_write_asm.Tie as tie
 

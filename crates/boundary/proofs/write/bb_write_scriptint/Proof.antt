@@ -6,8 +6,8 @@ use mir.Facts.{toZ-ofZ}
 use Rattle.laws.specs.Buffer.{after}
 use Rattle.numbers.specs.ScriptNum.{serialize}
 use Rattle.numbers.specs.Answer.{writeSays}
-use Rattle.boundary.specs.Handed.{one}
-use Rattle.boundary.proofs.Handing.{says-short, says-as, kept, changed}
+use Rattle.hand.specs.Handed.{one}
+use Rattle.hand.proofs.Handing.{says-short, says-as, kept, changed}
 use Rattle.boundary.proofs.write.bb_write_scriptint.Statement.{statement}
 use Rattle.boundary.proofs.write.bb_write_scriptint.Tie as tie
 

@@ -14,7 +14,7 @@ use Rattle.refusal.specs.Answer.{saidCount}
 use Rattle.laws.specs.Buffer.{after}
 use Rattle.numbers.specs.ScriptNum.{serialize}
 use Rattle.numbers.specs.Answer.{writeSays}
-use Rattle.builder.specs.Builder.{intOpcode, pushInt}
+use Rattle.building.specs.Builder.{intOpcode, pushInt}
 use Rattle.builder.proofs.Called.{same-call}
 use Rattle.builder.proofs.Ints.{opcode-call, number-call, least-call, count-is, bytes-are, refused-is}
 use Rattle.builder.proofs.Builder.push_int.Statement.{statement}

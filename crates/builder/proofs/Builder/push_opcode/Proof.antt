@@ -1,6 +1,6 @@
 -- `builder::Builder::push_opcode` meets its contract: an opcode has no length bytes and no body. Assumes nothing.
 use borrow.Author.Needs.{needs}
-use Rattle.walk.specs.Instruction.{writeLE}
+use Rattle.script.specs.Instruction.{writeLE}
 use Rattle.builder.proofs.Builder.push_opcode.Statement.{statement}
 use Rattle.builder.proofs.Builder.push_opcode.Tie as tie
 

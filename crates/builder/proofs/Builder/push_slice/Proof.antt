@@ -1,8 +1,8 @@
 -- `builder::Builder::push_slice` meets its contract: each test picks the form. Assumes nothing.
 use borrow.Author.Needs.{needs}
 use borrow.Author.Tests.{le-leb, lt-leb}
-use Rattle.walk.specs.Instruction.{encode}
-use Rattle.builder.specs.Builder.{pushSlice}
+use Rattle.script.specs.Instruction.{encode}
+use Rattle.building.specs.Builder.{pushSlice}
 use Rattle.builder.proofs.Builder.push_slice.Statement.{statement}
 use Rattle.builder.proofs.Builder.push_slice.Tie as tie
 

@@ -7,9 +7,11 @@ use native.Mathlib.Omega.{arith}
 use borrow.Author.Needs.{needs}
 use Rattle.laws.specs.Said.{answers}
 use Rattle.opcodes.specs.Opcode.{saidCode}
-use Rattle.builder.specs.Builder.{verifyForm, pushVerify}
-use Rattle.builder.specs.Lent.{builderSays}
-use Rattle.builder.proofs.Called.{same-call, bad-builder, good-builder, good-used, some-used, replaced}
+use Rattle.building.specs.Builder.{verifyForm, pushVerify}
+use Rattle.building.specs.Lent.{builderSays}
+use Rattle.builder.proofs.Called.{same-call, bad-builder, some-used, replaced}
+use Rattle.layout.proofs.Checked.{good-builder}
+use Rattle.building.proofs.Passed.{good-used}
 use Rattle.builder.proofs.Builder.push_verify.Statement.{statement}
 use Rattle.builder.proofs.Builder.push_verify.Tie as tie
 

@@ -1,7 +1,8 @@
 -- `builder::Builder::refuse` meets its contract. Assumes nothing.
 use borrow.Author.Needs.{needs}
 use Rattle.opcodes.specs.Opcode.{saidCode}
-use Rattle.builder.proofs.Called.{bad-builder, good-builder, call-refused}
+use Rattle.builder.proofs.Called.{bad-builder, call-refused}
+use Rattle.layout.proofs.Checked.{good-builder}
 use Rattle.builder.proofs.Builder.refuse.Statement.{statement}
 use Rattle.builder.proofs.Builder.refuse.Tie as tie
 

@@ -4,8 +4,10 @@ use mathlib.Core.Option.{none}
 use borrow.Author.Needs.{needs}
 use lib.Seq.{length-take-le}
 use Rattle.laws.specs.Said.{answers}
-use Rattle.builder.specs.Lent.{builderSays}
-use Rattle.builder.proofs.Called.{bad-builder, good-builder, good-used, taken-over}
+use Rattle.building.specs.Lent.{builderSays}
+use Rattle.builder.proofs.Called.{bad-builder, taken-over}
+use Rattle.layout.proofs.Checked.{good-builder}
+use Rattle.building.proofs.Passed.{good-used}
 use Rattle.builder.proofs.Builder.start.Statement.{statement}
 use Rattle.builder.proofs.Builder.start.Tie as tie
 

@@ -1,7 +1,7 @@
 -- `inspect::facts::dust_of` meets its contract: within the limit `minimal_non_dust` answers. Assumes nothing.
 use mathlib.Core.Path.{sym, ap, _∙_}
 use borrow.Author.Needs.{needs}
-use Rattle.counts.specs.Answer.{saidDust}
+use Rattle.dust.specs.Answer.{saidDust}
 use Rattle.laws.proofs.Answered.{answered, not-refused}
 use Rattle.inspect.proofs.Within.{dusted}
 use Rattle.inspect.proofs.facts.dust_of.Statement.{statement}

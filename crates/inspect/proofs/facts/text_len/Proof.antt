@@ -3,7 +3,7 @@ use mathlib.Core.Path.{_∙_}
 use native.Mathlib.Omega.{arith}
 use borrow.Author.Needs.{needs}
 use Rattle.inspect.proofs.Within.{measured}
-use Rattle.inspect.proofs.Short.{text-short}
+use Rattle.screen.proofs.Short.{text-short}
 use Rattle.inspect.proofs.facts.text_len.Statement.{statement}
 use Rattle.inspect.proofs.facts.text_len.Tie as tie
 

@@ -5,7 +5,7 @@ use borrow.Author.Needs.{needs}
 use lib.ListN.{length, take}
 use lib.Seq.{length-take-le}
 use Rattle.laws.proofs.Stored.{copied}
-use Rattle.text.specs.Asm.{textOf}
+use Rattle.asm.specs.Asm.{textOf}
 use Rattle.inspect.proofs.Room.{both}
 use Rattle.inspect.proofs.put.put_screen.Statement.{statement}
 use Rattle.inspect.proofs.put.put_screen.Tie as tie

@@ -5,7 +5,7 @@ use native.Mathlib.Omega.{arith}
 use borrow.Author.Needs.{needs}
 use lib.ListN.{length, drop, length-append, length-drop}
 use Rattle.laws.specs.Said.{answers}
-use Rattle.text.specs.Asm.{textOf, asmSays}
+use Rattle.asm.specs.Asm.{textOf, asmSays}
 use Rattle.inspect.proofs.Within.{texted}
 use Rattle.inspect.proofs.Room.{ended}
 use Rattle.inspect.proofs.put.put_text.Statement.{statement}

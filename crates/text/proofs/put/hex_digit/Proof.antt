@@ -6,7 +6,7 @@ use lib.Dec.{ltb, eqb}
 use borrow.Author.Tests.{lt-ltb, le-ltb, eqb-true}
 use Rattle.laws.specs.Choice.{if_then_else_}
 use Rattle.laws.proofs.Table.{every, at}
-use Rattle.text.specs.Asm.{hexDigit}
+use Rattle.asm.specs.Asm.{hexDigit}
 use borrow.Author.Needs.{needs}
 use Rattle.text.proofs.put.hex_digit.Statement.{statement}
 use Rattle.text.proofs.put.hex_digit.Tie as tie

@@ -6,7 +6,7 @@ use native.Mathlib.Omega.{arith}
 use borrow.Author.Tests.{eq-eqb, ne-eqb}
 use lib.ListN.{length, length-set}
 use lib.Seq.{length-sets}
-use Rattle.text.specs.Asm.{hex, dataText}
+use Rattle.asm.specs.Asm.{hex, dataText}
 use borrow.Author.Needs.{needs}
 use Rattle.text.proofs.put.put_data.Statement.{statement}
 use Rattle.text.proofs.put.put_data.Tie as tie

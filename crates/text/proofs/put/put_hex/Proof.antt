@@ -5,8 +5,8 @@ use Prim.Native.Nat.{_+_, _-_, _*_, _≤_}
 use native.Mathlib.Omega.{arith}
 use lib.ListN.{length, drop, length-set, drop-of-length-le}
 use lib.Seq.{sets}
-use Rattle.text.specs.Asm.{hex}
-use Rattle.text.proofs.Sizes.{hex-length}
+use Rattle.asm.specs.Asm.{hex}
+use Rattle.asm.proofs.Sizes.{hex-length}
 use Rattle.text.proofs.Stored.{store-hex}
 use Rattle.text.proofs.put.put_hex.Statement.{statement}
 use Rattle.text.proofs.put.put_hex.Tie as tie

@@ -3,9 +3,9 @@ use mathlib.Core.Path.{_≡_, ap}
 use native.Mathlib.Omega.{arith}
 use borrow.Author.Tests.{eq-eqb, ne-eqb}
 use lib.ListN.{length}
-use Rattle.opcodes.specs.Text.{text}
-use Rattle.opcodes.proofs.Pooled.{name-at}
-use Rattle.text.specs.Asm.{opcodeText}
+use Rattle.pool.specs.Text.{text}
+use Rattle.pool.proofs.Pooled.{name-at}
+use Rattle.asm.specs.Asm.{opcodeText}
 use borrow.Author.Needs.{needs}
 use Rattle.text.proofs.put.put_opcode.Statement.{statement}
 use Rattle.text.proofs.put.put_opcode.Tie as tie

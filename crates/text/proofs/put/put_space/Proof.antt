@@ -3,7 +3,7 @@ use mathlib.Core.Path.{_≡_, refl}
 use native.Mathlib.Omega.{arith}
 use borrow.Author.Tests.{eq-eqb, ne-eqb}
 use lib.ListN.{length}
-use Rattle.text.specs.Asm.{spaceAt}
+use Rattle.asm.specs.Asm.{spaceAt}
 use borrow.Author.Needs.{needs}
 use Rattle.text.proofs.put.put_space.Statement.{statement}
 use Rattle.text.proofs.put.put_space.Tie as tie

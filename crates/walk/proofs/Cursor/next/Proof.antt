@@ -7,8 +7,8 @@ use borrow.Author.Needs.{needs}
 use lib.ListN.{getD}
 use Rattle.laws.specs.Said.{answers}
 use Rattle.opcodes.specs.Opcode.{saidClass}
-use Rattle.walk.specs.Walk.{opcode, walkSays, nextAt}
-use Rattle.walk.proofs.Step.{settles, too-long, bad-cursor, at-end, opcode-says, number-code, plain-code}
+use Rattle.script.specs.Walk.{opcode, walkSays, nextAt}
+use Rattle.script.proofs.Step.{settles, too-long, bad-cursor, at-end, opcode-says, number-code, plain-code}
 use Rattle.walk.proofs.Cursor.next.Statement.{statement}
 use Rattle.walk.proofs.Cursor.next.Tie as tie
 

@@ -6,8 +6,8 @@ use native.Mathlib.Omega.{arith}
 use borrow.Author.Needs.{needs}
 use lib.ListN.{getD}
 use Rattle.opcodes.specs.Opcode.{saidClass}
-use Rattle.walk.specs.Walk.{walkSays, sizeSaid}
-use Rattle.walk.proofs.Step.{too-long, bad-cursor, at-end, opcode-says, number-code, plain-code}
+use Rattle.script.specs.Walk.{walkSays, sizeSaid}
+use Rattle.script.proofs.Step.{too-long, bad-cursor, at-end, opcode-says, number-code, plain-code}
 use Rattle.walk.proofs.Cursor.size.Statement.{statement}
 use Rattle.walk.proofs.Cursor.size.Tie as tie
 

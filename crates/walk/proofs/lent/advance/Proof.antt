@@ -1,4 +1,4 @@
--- `walk::advance` meets its contract: a walk of its MIR. The cursor's borrow is opened and the cursor copied out, `Cursor::next` is called with the copy, the cursor
+-- `walk::lent::advance` meets its contract: a walk of its MIR. The cursor's borrow is opened and the cursor copied out, `Cursor::next` is called with the copy, the cursor
 -- that it gives back is stored, and the borrow is closed there. All that the proof knows of `Cursor::next` is that it meets its contract. Assumes nothing.
 use mathlib.Core.Path.{_≡_, refl, ap}
 use mathlib.Core.List.{[], _∷_, List}
@@ -41,7 +41,7 @@ use denote.Triple.Spec.{Meets, tripleOf}
 use denote.Triple.Table.{entered, cited}
 use denote.Triple.Walked.{says, Stays, stay-ref, stay-none, stay-none-slice, walkOf, goes-ref, goes-none, goes-none-slice, Walks, ends-at, walked, walk-meets}
 use denote.Exit.{yes}
-use Rattle.walk.specs.Walk.{walkSays, nextAt}
+use Rattle.script.specs.Walk.{walkSays, nextAt}
 use Rattle.walk.specs.Answer.{saidFound, isMinimal}
 use Rattle.walk.specs.declared.Cursor.{Cursor}
 use Rattle.walk.specs.declared.Found.{Found}

@@ -1,8 +1,17 @@
 -- `walk::part::body` meets its contract: the span says which part it is. Assumes nothing.
+use mathlib.Core.Path.{_≡_}
+use Prim.Native.Nat.{ℕ, _-_}
+use native.Mathlib.Omega.{arith}
 use borrow.Author.Needs.{needs}
-use Rattle.walk.proofs.Places.{span-len}
+use Rattle.laws.specs.Said.{Said}
+use Rattle.script.specs.Walk.{Walked}
+use Rattle.walk.specs.Part.{bodyLen}
+use Rattle.walk.specs.Steps.{Spans}
 use Rattle.walk.proofs.part.body.Statement.{statement}
 use Rattle.walk.proofs.part.body.Tie as tie
+
+span-len : {a : Said Walked} {size start end : ℕ} → Spans a size start end → end - start ≡ bodyLen a
+span-len h = omega arith
 
 returns : tie.Need-returns
 returns c =

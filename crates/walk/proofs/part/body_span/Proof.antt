@@ -2,7 +2,7 @@
 use mathlib.Core.Path.{refl}
 use native.Mathlib.Omega.{arith}
 use borrow.Author.Needs.{needs}
-use Rattle.walk.proofs.Run.{says-at, good-at}
+use Rattle.walk.proofs.Turn.{says-at, good-at}
 use Rattle.walk.proofs.part.body_span.Statement.{statement}
 use Rattle.walk.proofs.part.body_span.Tie as tie
 

@@ -1,7 +1,7 @@
 -- `walk::push::is_number` meets its contract: the tests that led to each answer pick the case of `isNumber`. Assumes nothing.
 use borrow.Author.Needs.{needs}
 use borrow.Author.Tests.{lt-ltb, le-ltb, eq-eqb, ne-eqb}
-use Rattle.walk.specs.Steps.{isNumber}
+use Rattle.script.specs.Steps.{isNumber}
 use Rattle.walk.proofs.push.is_number.Statement.{statement}
 use Rattle.walk.proofs.push.is_number.Tie as tie
 

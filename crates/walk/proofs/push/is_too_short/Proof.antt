@@ -1,7 +1,7 @@
 -- `walk::push::is_too_short` meets its contract: mode and form pick the case of `tooShort`. Assumes nothing.
 use borrow.Author.Needs.{needs}
 use borrow.Author.Tests.{eq-eqb, ne-eqb}
-use Rattle.walk.specs.Steps.{tooShort}
+use Rattle.script.specs.Steps.{tooShort}
 use Rattle.walk.proofs.push.is_too_short.Statement.{statement}
 use Rattle.walk.proofs.push.is_too_short.Tie as tie
 

@@ -6,7 +6,7 @@ use native.Mathlib.Omega.{arith}
 use borrow.Author.Needs.{needs}
 use lib.ListN.{getD}
 use Rattle.opcodes.specs.Opcode.{saidForm}
-use Rattle.walk.proofs.Step.{few, says-length-cut, says-short, says-body-cut, says-push}
+use Rattle.script.proofs.Step.{few, says-length-cut, says-short, says-body-cut, says-push}
 use Rattle.walk.proofs.push.push_at.Statement.{statement}
 use Rattle.walk.proofs.push.push_at.Tie as tie
 

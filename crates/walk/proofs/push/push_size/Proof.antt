@@ -6,8 +6,8 @@ use native.Mathlib.Omega.{arith}
 use borrow.Author.Needs.{needs}
 use lib.ListN.{getD}
 use Rattle.opcodes.specs.Opcode.{saidForm}
-use Rattle.walk.specs.Walk.{sizeSaid}
-use Rattle.walk.proofs.Step.{few, says-length-cut, says-short, says-body-cut, says-push}
+use Rattle.script.specs.Walk.{sizeSaid}
+use Rattle.script.proofs.Step.{few, says-length-cut, says-short, says-body-cut, says-push}
 use Rattle.walk.proofs.push.push_size.Statement.{statement}
 use Rattle.walk.proofs.push.push_size.Tie as tie
 

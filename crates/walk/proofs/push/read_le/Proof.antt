@@ -4,8 +4,8 @@ use Prim.Native.Nat.{ℕ, _+_, _-_, _*_, _^_, _≤_, _<_}
 use native.Mathlib.Omega.{arith}
 use borrow.Author.Needs.{needs}
 use lib.ListN.{getD}
-use Rattle.walk.specs.Script.{readLE}
-use Rattle.walk.proofs.Little.{le-more, le-small}
+use Rattle.script.specs.Script.{readLE}
+use Rattle.script.proofs.Little.{le-more, le-small}
 use Rattle.walk.proofs.push.read_le.Statement.{statement}
 use Rattle.walk.proofs.push.read_le.Tie as tie
 

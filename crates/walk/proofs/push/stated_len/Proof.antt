@@ -2,7 +2,7 @@
 use native.Mathlib.Omega.{arith}
 use borrow.Author.Needs.{needs}
 use borrow.Author.Tests.{eq-eqb, ne-eqb}
-use Rattle.walk.specs.Steps.{stated}
+use Rattle.script.specs.Steps.{stated}
 use Rattle.walk.proofs.push.stated_len.Statement.{statement}
 use Rattle.walk.proofs.push.stated_len.Tie as tie
 

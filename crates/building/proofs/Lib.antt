@@ -1,0 +1,4 @@
+pub mod Passed
+pub mod Shortest
+pub mod Marked
+pub mod Onward

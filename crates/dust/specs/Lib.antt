@@ -1,0 +1,2 @@
+pub mod Dust
+pub mod Answer

@@ -1,0 +1,32 @@
+-- `hand::count` meets its contract, case by case. Assumes nothing.
+use mathlib.Core.Path.{ap}
+use mathlib.Core.List.{[], _∷_}
+use native.Mathlib.Omega.{arith}
+use borrow.Author.Needs.{needs}
+use Rattle.refusal.specs.Answer.{saidCount}
+use Rattle.hand.specs.Handed.{one}
+use Rattle.laws.proofs.Stored.{stored-front}
+use Rattle.hand.proofs.Handing.{says-short, says-row, says-refused}
+use Rattle.hand.proofs.count.Statement.{statement}
+use Rattle.hand.proofs.count.Tie as tie
+
+returns : tie.Need-returns
+returns c =
+    says-short one _ _ (c .if1 .taken)
+
+returns-2 : tie.Need-returns-2
+returns-2 c =
+    let k = c .before .before .before in
+    says-row one _ _ (k .if1 .left) (ap saidCount (c .before .answer .given .1)) (stored-front (_ ∷ []) (k .before .before .args .values .now) (k .if1 .left))
+
+returns-3 : tie.Need-returns-3
+returns-3 c =
+    let d = c .before .before in
+    let e = d .before .before in
+    says-refused one _ _ (e .before .answer2 .given .0 .0) (e .before .before .before .if1 .left) (omega (arith, e .before .before .before .if1 .left)) (ap saidCount (e .before .answer2 .given .1)) (d .refusal .ensures)
+
+pub count-spec : {M : Type 1} → statement M
+count-spec =
+    tie.close
+    (tie.spec returns (λ c. search needs) (λ c. search needs) (λ c. search needs) (λ c κs. search needs) (λ c. search needs) returns-2 (λ c. search needs)
+    returns-3)

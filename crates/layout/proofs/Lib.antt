@@ -1,0 +1,5 @@
+pub mod Ints
+pub mod Stored
+pub mod Checked
+pub mod Same
+pub mod Settled

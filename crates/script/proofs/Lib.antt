@@ -1,0 +1,11 @@
+pub mod Little
+pub mod Minimal
+pub mod Step
+pub mod Good
+pub mod Run
+pub mod Sized
+pub mod Encoding
+pub mod Reading
+pub mod Exactly
+pub mod Handed
+pub mod Core

@@ -1,0 +1,6 @@
+pub mod Script
+pub mod Walk
+pub mod Instruction
+pub mod Calls
+pub mod Run
+pub mod Steps

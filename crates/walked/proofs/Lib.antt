@@ -1,0 +1,4 @@
+pub mod Runs
+pub mod Numbered
+pub mod Same
+pub mod Settled
