@@ -20,7 +20,7 @@ use Rattle.script.specs.Run.{Run, continue, walkFor, walkFrom, fold}
 use Rattle.script.proofs.Good.{Good, good}
 use Rattle.numbers.specs.Answer.{isLeast}
 use Rattle.numbers.specs.ScriptNum.{serialize}
-use Rattle.building.specs.Builder.{State, Call, pushOpcode, pushSlice, intOpcode, pushNumber, pushInt, verifyForm, pushVerified, pushVerify, opcodeIn, unlessRefused, lastOpcode, takesOver}
+use Rattle.building.specs.Builder.{State, Call, pushOpcode, pushSlice, intOpcode, pushNumber, pushInt, verifyForm, pushVerified, pushVerify, opcodeIn, unlessRefused, lastIfOpcode, takesOver}
 use Rattle.building.specs.Lent.{notLast, builderSays, builtSays, within, leaves, calls}
 use Rattle.building.proofs.Passed.{passes}
 
@@ -85,12 +85,12 @@ module _ (s : List ℕ) where
   last-at zero p last h l = absurd (omega arith)
   last-at (suc n) p last h l = step n p last (walkSays false s p) (good false s p) h l (last-at n)
 
-last-byte : (s : List ℕ) → LastAt s (length s) (lastOpcode s)
-unfolding lastOpcode walkFrom
+last-byte : (s : List ℕ) → LastAt s (length s) (lastIfOpcode s)
+unfolding lastIfOpcode walkFrom
 last-byte s = last-at s (suc (length s - 0)) 0 none (omega arith) tt
 
 pub start-ends : Ends takesOver
-start-ends st = go (lastOpcode (st .bytes)) (last-byte (st .bytes))
+start-ends st = go (lastIfOpcode (st .bytes)) (last-byte (st .bytes))
   where
     go : (o : Option ℕ) → LastAt (st .bytes) (length (st .bytes)) o → notLast o (length (st .bytes)) (st .bytes) ≡ false
     go none l = refl

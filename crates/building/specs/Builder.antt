@@ -86,9 +86,9 @@ unlessRefused (last, answers w) = last
 unlessRefused (last, refuses number values) = none
 
 -- 'the plain walk's last instruction if an opcode and nothing was refused'
-unfoldable pub lastOpcode : List ℕ → Option ℕ
-lastOpcode s = unlessRefused (fold (λ last w. opcodeIn w) none (walkFrom false s 0))
+unfoldable pub lastIfOpcode : List ℕ → Option ℕ
+lastIfOpcode s = unlessRefused (fold (λ last w. opcodeIn w) none (walkFrom false s 0))
 
 -- 'Bytes taken over as a start remember' that
 abbrev pub takesOver : Call
-takesOver st = answers (record { bytes = st .bytes; remembered = lastOpcode (st .bytes) })
+takesOver st = answers (record { bytes = st .bytes; remembered = lastIfOpcode (st .bytes) })

@@ -19,8 +19,8 @@ use Rattle.building.specs.Lent.{Outcome, calls}
 use Rattle.hand.specs.Handed.{
   Handed,
   handed,
-  numberOf,
-  valuesOf,
+  numberSaid,
+  valuesSaid,
   into,
   says,
   gives,
@@ -63,19 +63,19 @@ few BadBuilder = omega arith
 module _ {A : Type 0} {least : ℕ} (row : A → List ℕ) (said : Said A) (old : List ℕ) where
   pub says-short : length old < least → handed 7 old ≡ says least row said old
   unfolding says
-  says-short h = short (numberOf said) (valuesOf row said) old h
+  says-short h = short (numberSaid said) (valuesSaid row said) old h
 
   pub says-row : {x : A} {new : List ℕ} → least ≤ length old → said ≡ answers x → new ≡ row x ++ drop (length (row x)) old
       → handed 0 new ≡ says least row said old
   unfolding says
-  says-row h e g = roomy old h (ap numberOf e) (ap (valuesOf row) e) g
+  says-row h e g = roomy old h (ap numberSaid e) (ap (valuesSaid row) e) g
 
   pub says-refused : (why : Refusal) {r : ℕ} {new : List ℕ} → least ≤ length old → 1 ≤ length old → said ≡ saidRefusal why
       → (r ≡ refusals.numberOf why) × (new ≡ sets old 0 (refusals.valuesOf why)) → handed r new ≡ says least row said old
   unfolding says
   says-refused why h p e g =
       let f : length (refusals.valuesOf why) ≤ length old = omega (arith, few why) in
-      roomy old h (ap numberOf e ∙ sym (g .0)) (ap (valuesOf row) e) (g .1 ∙ stored-front (refusals.valuesOf why) old f)
+      roomy old h (ap numberSaid e ∙ sym (g .0)) (ap (valuesSaid row) e) (g .1 ∙ stored-front (refusals.valuesOf why) old f)
 
 module _ {least : ℕ} (row old : List ℕ) where
   pub gives-short : length old < least → handed 7 old ≡ gives least row old
@@ -120,21 +120,21 @@ brief (push place form body len) = omega arith
 module _ (next : ℕ) (said : Said Walked) (old : List ℕ) where
   pub steps-short : length old < 6 → handed 7 old ≡ steps next said old
   unfolding steps
-  steps-short h = short (numberOf said) (next ∷ valuesOf walkedRow said) old h
+  steps-short h = short (numberSaid said) (next ∷ valuesSaid walkedRow said) old h
 
   pub steps-row : (w : Walked) {new : List ℕ} → 6 ≤ length old → said ≡ answers w → new ≡ sets old 0 (next ∷ walkedRow w)
       → handed 0 new ≡ steps next said old
   unfolding steps
   steps-row w h e g =
       let f : length (next ∷ walkedRow w) ≤ length old = omega (arith, brief w) in
-      roomy old h (ap numberOf e) (ap (λ s. next ∷ valuesOf walkedRow s) e) (g ∙ stored-front (next ∷ walkedRow w) old f)
+      roomy old h (ap numberSaid e) (ap (λ s. next ∷ valuesSaid walkedRow s) e) (g ∙ stored-front (next ∷ walkedRow w) old f)
 
   pub steps-refused : (why : Refusal) {r : ℕ} {new : List ℕ} → 6 ≤ length old → said ≡ saidRefusal why
       → (r ≡ refusals.numberOf why) × (new ≡ sets old 0 (next ∷ refusals.valuesOf why)) → handed r new ≡ steps next said old
   unfolding steps
   steps-refused why h e g =
       let f : length (next ∷ refusals.valuesOf why) ≤ length old = omega (arith, few why) in
-      roomy old h (ap numberOf e ∙ sym (g .0)) (ap (λ s. next ∷ valuesOf walkedRow s) e) (g .1 ∙ stored-front (next ∷ refusals.valuesOf why) old f)
+      roomy old h (ap numberSaid e ∙ sym (g .0)) (ap (λ s. next ∷ valuesSaid walkedRow s) e) (g .1 ∙ stored-front (next ∷ refusals.valuesOf why) old f)
 
 module _ (o : Outcome) (old : List ℕ) where
   abbrev state : List ℕ → List ℕ
@@ -142,20 +142,20 @@ module _ (o : Outcome) (old : List ℕ) where
 
   pub builds-short : length old < 3 → handed 7 old ≡ builds o old
   unfolding builds
-  builds-short h = short (numberOf (o .said)) (state (valuesOf (λ done. []) (o .said))) old h
+  builds-short h = short (numberSaid (o .said)) (state (valuesSaid (λ done. []) (o .said))) old h
 
   pub builds-done : {new : List ℕ} → 3 ≤ length old → o .said ≡ answers tt → new ≡ sets old 0 (state []) → handed 0 new ≡ builds o old
   unfolding builds
   builds-done h e g =
       let f : length (state []) ≤ length old = omega arith in
-      roomy old h (ap numberOf e) (ap (λ s. state (valuesOf (λ done. []) s)) e) (g ∙ stored-front (state []) old f)
+      roomy old h (ap numberSaid e) (ap (λ s. state (valuesSaid (λ done. []) s)) e) (g ∙ stored-front (state []) old f)
 
   pub builds-refused : (why : Refusal) {r : ℕ} {new : List ℕ} → 3 ≤ length old → o .said ≡ saidRefusal why
       → (r ≡ refusals.numberOf why) × (new ≡ sets old 0 (state (refusals.valuesOf why))) → handed r new ≡ builds o old
   unfolding builds
   builds-refused why h e g =
       let f : length (state (refusals.valuesOf why)) ≤ length old = omega (arith, few why) in
-      roomy old h (ap numberOf e ∙ sym (g .0)) (ap (λ s. state (valuesOf (λ done. []) s)) e) (g .1 ∙ stored-front (state (refusals.valuesOf why)) old f)
+      roomy old h (ap numberSaid e ∙ sym (g .0)) (ap (λ s. state (valuesSaid (λ done. []) s)) e) (g .1 ∙ stored-front (state (refusals.valuesOf why)) old f)
 
 pub steps-as : (old : List ℕ) {n m : ℕ} {a b : Said Walked} {h : Handed ℕ} → h ≡ steps n a old → n ≡ m → a ≡ b → h ≡ steps m b old
 steps-as old {n} {m} {a} {b} p d e = p ∙ ap (λ k. steps k a old) d ∙ ap (λ s. steps m s old) e

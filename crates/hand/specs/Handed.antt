@@ -16,14 +16,14 @@ use Rattle.templates.specs.Kind.{Kind, p2pkh, p2sh, p2wpkh, p2wsh, p2tr, p2a, w
 use Rattle.building.specs.Lent.{Outcome}
 
 -- 'the answer is the refusal's number of document 01, 0 where there is none'
-abbrev pub numberOf : {A : Type 0} → Said A → ℕ
-numberOf (answers a) = 0
-numberOf (refuses n values) = n
+abbrev pub numberSaid : {A : Type 0} → Said A → ℕ
+numberSaid (answers a) = 0
+numberSaid (refuses n values) = n
 
 -- '.. and the values go into lent slices': an answer's, or those that stand beside the refusal's number
-abbrev pub valuesOf : {A : Type 0} → (A → List ℕ) → Said A → List ℕ
-valuesOf row (answers a) = row a
-valuesOf row (refuses n values) = values
+abbrev pub valuesSaid : {A : Type 0} → (A → List ℕ) → Said A → List ℕ
+valuesSaid row (answers a) = row a
+valuesSaid row (refuses n values) = values
 
 -- what a call returns and leaves in the slice
 pub data Handed (E : Type 0) : Type 0 where
@@ -35,7 +35,7 @@ into least number row old = if ltb (length old) least then handed 7 old else han
 
 -- a call that says this
 unfoldable pub says : {A : Type 0} (least : ℕ) (row : A → List ℕ) (said : Said A) (old : List ℕ) → Handed ℕ
-says least row said old = into least (numberOf said) (valuesOf row said) old
+says least row said old = into least (numberSaid said) (valuesSaid row said) old
 
 -- a call that cannot be refused
 unfoldable pub gives : (least : ℕ) (row old : List ℕ) → Handed ℕ
@@ -108,11 +108,11 @@ rememberedAs (some code) = code
 
 -- the builder for the next call, and behind it the refusal's values
 unfoldable pub builds : Outcome → List ℕ → Handed ℕ
-builds o old = into 3 (numberOf (o .said)) (o .used ∷ (rememberedAs (o .remembered) ∷ valuesOf (λ done. []) (o .said))) old
+builds o old = into 3 (numberSaid (o .said)) (o .used ∷ (rememberedAs (o .remembered) ∷ valuesSaid (λ done. []) (o .said))) old
 
 -- the place for the next call, and behind it what the walk says
 unfoldable pub steps : (next : ℕ) → Said Walked → List ℕ → Handed ℕ
-steps next said old = into 6 (numberOf said) (next ∷ valuesOf walkedRow said) old
+steps next said old = into 6 (numberSaid said) (next ∷ valuesSaid walkedRow said) old
 
 -- the same, with the place lent in a slice of its own, which may be too short as well
 unfoldable pub advances : (cursor : List ℕ) (next : ℕ) → Said Walked → List ℕ → Handed ℕ

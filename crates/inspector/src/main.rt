@@ -8,7 +8,7 @@ ghost use mathlib.Core.Path.{_≡_};
 ghost use mathlib.Core.List.{_++_};
 ghost use Prim.Native.Nat.{_≤_, _<_};
 ghost use lib.ListN.{length, drop};
-ghost use Rattle.screen.specs.Screen.{most, screenOf};
+ghost use Rattle.screen.specs.Screen.{mostShown, screenOf};
 ghost use Rattle.inspector.specs.Input.{Within};
 
 // How many bytes are read at most: one more than is inspected. What follows them changes no screen.
@@ -22,7 +22,7 @@ enum Input {
 
 // Reads to the input's end in as many reads as it takes, or until the buffer is full, which is over the inspector's limit.
 fn read_in(buf: &mut [u8]) -> Input
-    requires { ⌜ most < length (now buf) ⌝ }
+    requires { ⌜ mostShown < length (now buf) ⌝ }
     ensures { λ r. ⌜ Within r (length (now (buf .exit))) ⌝ }
 {
     let mut done: usize = 0;

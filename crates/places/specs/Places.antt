@@ -23,5 +23,5 @@ unfoldable pub positionsSay : Bool → List ℕ → ℕ → Said ℕ
 positionsSay minimal s room = unless (ending (walkFrom minimal s 0)) (writes (placesOf minimal s) room)
 
 -- how many there are
-unfoldable pub countSays : Bool → List ℕ → Said ℕ
-countSays minimal s = unless (ending (walkFrom minimal s 0)) (answers (length (placesOf minimal s)))
+unfoldable pub placeCountSays : Bool → List ℕ → Said ℕ
+placeCountSays minimal s = unless (ending (walkFrom minimal s 0)) (answers (length (placesOf minimal s)))

@@ -10,12 +10,12 @@ ghost use lib.ListN.{length};
 ghost use lib.Seq.{sets};
 ghost use Rattle.laws.specs.Buffer.{after};
 ghost use Rattle.refusal.specs.Answer.{saidCount};
-ghost use Rattle.places.specs.Places.{countSays, placesOf, positionsSay};
+ghost use Rattle.places.specs.Places.{placeCountSays, placesOf, positionsSay};
 ghost use Rattle.walk.specs.Answer.{isMinimal};
 
 // How many instructions a script has to its end, or why the walk does not reach it.
 fn count(script: &[u8], mode: Mode) -> Counted
-    ensures { λ r. ⌜ saidCount r ≡ countSays (isMinimal mode) (now (script .entry)) ⌝ }
+    ensures { λ r. ⌜ saidCount r ≡ placeCountSays (isMinimal mode) (now (script .entry)) ⌝ }
 {
     let mut at: usize = 0;
     let mut n: usize = 0;

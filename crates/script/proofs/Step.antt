@@ -33,7 +33,7 @@ use Rattle.script.specs.Walk.{
   moved,
   nextAt,
 }
-use Rattle.script.specs.Instruction.{Bytes, most, wasteful}
+use Rattle.script.specs.Instruction.{Bytes, mostStated, wasteful}
 use Rattle.script.specs.Instruction as instruction
 use Rattle.script.proofs.Little.{le-below}
 use Rattle.script.proofs.Minimal.{IsOf, minimal-same}
@@ -194,7 +194,7 @@ module _ (s : List ℕ) (at : ℕ) (form : PushForm) (k : sortOf (getD s at 0) �
   stated-direct pushdata4 e = cc
 
   -- no form states more than it can
-  pub stated-most : Bytes s → (f : PushForm) → IsOf f (getD s at 0) → stated (lengthBytes f) s at ≤ most f
+  pub stated-most : Bytes s → (f : PushForm) → IsOf f (getD s at 0) → stated (lengthBytes f) s at ≤ mostStated f
   unfolding stated
   stated-most b direct o = omega arith
   stated-most b pushdata1 o = omega (arith, le-below s b 1 (at + 1))

@@ -13,11 +13,11 @@ pub data Instruction : Type 0 where
   push : PushForm → List ℕ → Instruction
 
 -- '.. whose length that form can state (direct: 0 to 75; else what 1, 2 or 4 length bytes hold)'
-abbrev pub most : PushForm → ℕ
-most direct = 75
-most pushdata1 = 0xff
-most pushdata2 = 0xffff
-most pushdata4 = 0xffff_ffff
+abbrev pub mostStated : PushForm → ℕ
+mostStated direct = 75
+mostStated pushdata1 = 0xff
+mostStated pushdata2 = 0xffff
+mostStated pushdata4 = 0xffff_ffff
 
 -- each element is a byte; past the end `getD` gives 0
 abbrev pub Bytes : List ℕ → Type 0
@@ -26,7 +26,7 @@ Bytes s = (i : ℕ) → getD s i 0 < 256
 -- an opcode byte above 78, or a body of bytes that its form can state
 abbrev pub Stands : Instruction → Type 0
 Stands (opcode code) = (78 < code) × (code < 256)
-Stands (push form body) = (length body ≤ most form) × Bytes body
+Stands (push form body) = (length body ≤ mostStated form) × Bytes body
 
 -- the opcode byte of a push: 0 to 75 is the length itself
 abbrev pub opcodeOf : PushForm → ℕ → ℕ

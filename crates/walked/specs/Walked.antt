@@ -7,7 +7,7 @@ use lib.Dec.{leb, eqb}
 use Rattle.laws.specs.Choice.{if_then_else_}
 use Rattle.laws.specs.Said.{Said, answers, refuses}
 use Rattle.opcodes.specs.Core.{OP-16, OP-CHECKMULTISIG}
-use Rattle.opcodes.specs.Opcode.{numberOf}
+use Rattle.opcodes.specs.Opcode.{pushnumOf}
 use Rattle.script.specs.Walk.{Walked, end, opcode, push}
 use Rattle.script.specs.Run.{Run, stop, item, walkFrom, items, ending}
 
@@ -113,8 +113,8 @@ checks = opcodeThen λ code rest. eqb code OP-CHECKMULTISIG && isEnd rest
 -- 'pushes, at most 255; one opcode, which if it is a number must equal the count of pushes; OP_CHECKMULTISIG; end; m at most the count'
 unfoldable pub keysThen : ℕ → Run → Bool
 keysThen m run =
-    leb (pushes run) 255 && opcodeThen (λ code rest. agrees (numberOf code) (pushes run) && checks rest) (afterPushes run) && leb m (pushes run)
+    leb (pushes run) 255 && opcodeThen (λ code rest. agrees (pushnumOf code) (pushes run) && checks rest) (afterPushes run) && leb m (pushes run)
 
 -- 'Multisig: a number opcode m;' and what follows it
 unfoldable pub isMultisig : List ℕ → Bool
-isMultisig s = opcodeThen (λ code rest. numberThen (λ m. keysThen m rest) (numberOf code)) (walkFrom false s 0)
+isMultisig s = opcodeThen (λ code rest. numberThen (λ m. keysThen m rest) (pushnumOf code)) (walkFrom false s 0)
