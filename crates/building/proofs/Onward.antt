@@ -15,7 +15,7 @@ use lib.Seq.{getD-at}
 use Rattle.laws.specs.Said.{Said, answers, refuses, unless}
 use Rattle.laws.proofs.Test.{by-test, lt-or-le}
 use Rattle.refusal.specs.Refusal.{limit}
-use Rattle.script.specs.Walk.{Walked, end, opcode, push, walkSays, moved, nextAt}
+use Rattle.script.specs.Walk.{Walked, end, found, opcode, push, walkSays, moved, nextAt}
 use Rattle.script.specs.Run.{Run, continue, walkFor, walkFrom, fold}
 use Rattle.script.proofs.Good.{Good, good}
 use Rattle.numbers.specs.Answer.{isLeast}
@@ -74,10 +74,10 @@ module _ (s : List ℕ) where
       → ((q : ℕ) (l : Option ℕ) → length s - q < n → LastAt s q l → LastAt s (length s) (final l (walkFor n false s q)))
       → LastAt s (length s) (final last (continue a (walkFor n false s (moved a s p))))
   step n p last (answers end) g h l f = rw (g .0) l
-  step n p last (answers (opcode place code)) g h l f =
+  step n p last (answers (found (opcode place code))) g h l f =
       let e : p + 1 - 1 ≡ p = omega arith in
       f (p + 1) (some code) (omega (arith, g .fits)) (omega arith, rw e (sym (g .is)))
-  step n p last (answers (push place form body len)) g h l f = f _ none (omega (arith, g .fits, g .starts)) tt
+  step n p last (answers (found (push place form body len))) g h l f = f _ none (omega (arith, g .fits, g .starts)) tt
   step n p last (refuses number values) g h l f = tt
 
   last-at : (n p : ℕ) (last : Option ℕ) → length s - p < n → LastAt s p last → LastAt s (length s) (final last (walkFor n false s p))

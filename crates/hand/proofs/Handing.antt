@@ -13,7 +13,7 @@ use Rattle.refusal.specs.Refusal.{saidRefusal}
 use Rattle.refusal.specs.Refusal as refusals
 use Rattle.refusal.specs.declared.Refusal.{Refusal}
 use Rattle.refusal.specs.declared.Refusal.the-variants.{TooLong, NonMinimal, EarlyEnd, NumberTooLong, NumberNotMinimal, NumberOutOfRange, NoRoom, BadCursor, FeeTooLarge, ProgramLength, ProgramLengthV0, BadVersion, BadBuilder}
-use Rattle.script.specs.Walk.{Walked, end, opcode, push}
+use Rattle.script.specs.Walk.{Walked, end, found, opcode, push}
 use Rattle.building.specs.Builder.{Call}
 use Rattle.building.specs.Lent.{Outcome, calls}
 use Rattle.hand.specs.Handed.{
@@ -114,8 +114,8 @@ reads-as old p e = p ∙ ap (λ s. reads s old) e
 -- what the walk found needs five entries at most
 pub brief : (w : Walked) → length (walkedRow w) ≤ 5
 brief end = omega arith
-brief (opcode place code) = omega arith
-brief (push place form body len) = omega arith
+brief (found (opcode place code)) = omega arith
+brief (found (push place form body len)) = omega arith
 
 module _ (next : ℕ) (said : Said Walked) (old : List ℕ) where
   pub steps-short : length old < 6 → handed 7 old ≡ steps next said old

@@ -10,7 +10,7 @@ use Rattle.laws.specs.Choice.{if_then_else_}
 use Rattle.laws.specs.Said.{Said, answers, refuses}
 use Rattle.opcodes.specs.Opcode.{Sort, lengthBytes}
 use Rattle.opcodes.specs.Opcode as sort
-use Rattle.script.specs.Walk.{Walked, end, opcode, push}
+use Rattle.script.specs.Walk.{Walked, end, found, opcode, push}
 use Rattle.walked.specs.Walked.{Stretch, stretch}
 use Rattle.templates.specs.Kind.{Kind, p2pkh, p2sh, p2wpkh, p2wsh, p2tr, p2a, witness, p2pk, multisig, opreturn, other}
 use Rattle.building.specs.Lent.{Outcome}
@@ -71,8 +71,8 @@ sortRow sort.plain = 2 ∷ []
 -- end; an opcode; a push, its form as the number of length bytes
 abbrev pub walkedRow : Walked → List ℕ
 walkedRow end = 0 ∷ []
-walkedRow (opcode place code) = 1 ∷ (place ∷ (code ∷ []))
-walkedRow (push place form body len) = 2 ∷ (place ∷ (lengthBytes form ∷ (body ∷ (len ∷ []))))
+walkedRow (found (opcode place code)) = 1 ∷ (place ∷ (code ∷ []))
+walkedRow (found (push place form body len)) = 2 ∷ (place ∷ (lengthBytes form ∷ (body ∷ (len ∷ []))))
 
 -- the eleven kinds in document 01's order, from 1
 abbrev pub kindRow : Kind → List ℕ

@@ -7,7 +7,7 @@ use lib.IntN.{ℤ, pos, negsuc}
 use lib.ListN.{take}
 use Rattle.laws.specs.Said.{Said, answers, refuses}
 use Rattle.opcodes.specs.Opcode.{lengthBytes}
-use Rattle.script.specs.Walk.{Walked, end, opcode, push, sizeOf}
+use Rattle.script.specs.Walk.{Walked, end, found, opcode, push, sizeOf}
 use Rattle.script.specs.Calls.{call}
 use Rattle.numbers.specs.ScriptNum.{serialize, scriptNum, nDefaultMaxNumSize}
 use Rattle.counts.specs.Count.{countSays}
@@ -29,11 +29,12 @@ said row (refuses number values) = ("refusal", number ∷ values)
 -- 'The walk': a push with place, length bytes of its form, body place and body length
 abbrev pub stepRow : Walked → Row
 stepRow end = ("end", [])
-stepRow (opcode place code) = ("opcode", place ∷ code ∷ [])
-stepRow (push place form body len) = ("push", place ∷ lengthBytes form ∷ body ∷ len ∷ [])
+stepRow (found (opcode place code)) = ("opcode", place ∷ code ∷ [])
+stepRow (found (push place form body len)) = ("push", place ∷ lengthBytes form ∷ body ∷ len ∷ [])
 
 abbrev pub sizeRow : Walked → Row
-sizeRow w = ("size", sizeOf w ∷ [])
+sizeRow end = ("size", 0 ∷ [])
+sizeRow (found i) = ("size", sizeOf i ∷ [])
 
 abbrev pub amountRow : ℕ → Row
 amountRow n = ("amount", n ∷ [])

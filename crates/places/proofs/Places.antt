@@ -11,10 +11,10 @@ use lib.Seq.{sets, sets-eq}
 use Rattle.laws.specs.Said.{Said, answers, refuses, unless}
 use Rattle.opcodes.specs.Opcode.{Sort}
 use Rattle.opcodes.specs.Opcode as sort
-use Rattle.script.specs.Walk.{Walked, walked}
+use Rattle.script.specs.Walk.{Item, Walked, placeOf, walked}
 use Rattle.script.specs.Run.{walkFrom, items, ending}
 use Rattle.laws.specs.Buffer.{writes, after}
-use Rattle.places.specs.Places.{placeOf, placesOf, placeCountSays, positionsSay}
+use Rattle.places.specs.Places.{placesOf, placeCountSays, positionsSay}
 
 -- what stands at a place starts there
 pub place-is : (k : Sort) (at code len : ℕ) → placeOf (walked k at code len) ≡ at
@@ -22,7 +22,7 @@ place-is (sort.push form) at code len = refl
 place-is sort.number at code len = refl
 place-is sort.plain at code len = refl
 
-length-places : (ws : List Walked) → length (map placeOf ws) ≡ length ws
+length-places : (ws : List Item) → length (map placeOf ws) ≡ length ws
 length-places [] = refl
 length-places (w ∷ ws) = ap suc (length-places ws)
 

@@ -12,7 +12,7 @@ ghost use lib.Seq.{sets};
 ghost use lib.ListN.{length, getD};
 ghost use Rattle.refusal.specs.Refusal.{limit};
 ghost use Rattle.opcodes.specs.Opcode.{sortOf, lengthBytesAfter};
-ghost use Rattle.script.specs.Walk.{walked, walkSays, nextAt};
+ghost use Rattle.script.specs.Walk.{found, walked, walkSays, nextAt};
 ghost use Rattle.walk.specs.Part.{bodyPlace, bodyLen};
 ghost use Rattle.walk.specs.Answer.{isMinimal, saidFound};
 ghost use Rattle.hand.specs.Handed.{handed, gives, steps, advances, movedTo, walkedRow, minimalOf};
@@ -93,7 +93,7 @@ fn step(answer: Stepped, values: &mut [u64]) -> u32
 // from C costs no more than its stores.
 fn whole(at: usize, size: usize, code: u8, values: &mut [u64]) -> u32
     requires { ⌜ (6 ≤ length (now values)) × (1 + lengthBytesAfter (sortOf code) ≤ size) × (at + size ≤ limit) ⌝ }
-    ensures { λ r. ⌜ (r ≡ 0) × (now (values .exit) ≡ sets (now (values .entry)) 0 ((at + size) ∷ walkedRow (walked (sortOf code) at code (size - (1 + lengthBytesAfter (sortOf code)))))) ⌝ }
+    ensures { λ r. ⌜ (r ≡ 0) × (now (values .exit) ≡ sets (now (values .entry)) 0 ((at + size) ∷ walkedRow (found (walked (sortOf code) at code (size - (1 + lengthBytesAfter (sortOf code))))))) ⌝ }
 {
     let to = (at + size) as u64;
     let class = opcodes::classify(code);

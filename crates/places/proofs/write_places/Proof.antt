@@ -12,7 +12,8 @@ use lib.Seq.{sets}
 use Rattle.opcodes.specs.Opcode.{sortOf}
 use Rattle.walk.specs.Answer.{isMinimal}
 use Rattle.script.specs.Run.{Run, walkFrom, items}
-use Rattle.places.specs.Places.{placeOf, placesOf}
+use Rattle.script.specs.Walk.{placeOf}
+use Rattle.places.specs.Places.{placesOf}
 use Rattle.script.proofs.Sized.{within-limit, stands-fits, turn-sized, stops}
 use Rattle.places.proofs.Places.{place-is}
 use Rattle.places.proofs.write_places.Statement.{statement}

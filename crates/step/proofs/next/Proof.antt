@@ -9,7 +9,7 @@ use lib.ListN.{length, getD}
 use lib.Seq.{sets}
 use Rattle.refusal.specs.Refusal.{limit}
 use Rattle.opcodes.specs.Opcode.{sortOf, lengthBytesAfter}
-use Rattle.script.specs.Walk.{walked, walkSays, nextAt, sizeSaid}
+use Rattle.script.specs.Walk.{found, walked, walkSays, nextAt, sizeSaid}
 use Rattle.script.proofs.Sized.{within-limit, inside-script, stands-is, stands-head, stands-fits, stands-next}
 use Rattle.hand.specs.Handed.{handed, steps, walkedRow, minimalOf}
 use Rattle.hand.proofs.Handing.{steps-short, steps-row, steps-as}
@@ -53,7 +53,7 @@ module _ (c : tie.Else2) where
       omega (arith, within-limit minimal script at bytes (z .size .result) sized some, stands-fits minimal script at bytes (z .size .result) sized some)
 
   abbrev stood : List ℕ
-  stood = walkedRow (walked (sortOf (getD script at 0)) at (getD script at 0) (z .size .result - (1 + lengthBytesAfter (sortOf (getD script at 0)))))
+  stood = walkedRow (found (walked (sortOf (getD script at 0)) at (getD script at 0) (z .size .result - (1 + lengthBytesAfter (sortOf (getD script at 0))))))
 
   row : (r : ℕ) (new old : List ℕ) → 6 ≤ length old → r ≡ 0
       → new ≡ sets old 0 ((at + z .size .result) ∷ stood)
