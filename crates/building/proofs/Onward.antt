@@ -21,17 +21,10 @@ use Rattle.script.proofs.Good.{Good, good}
 use Rattle.numbers.specs.Answer.{isLeast}
 use Rattle.numbers.specs.ScriptNum.{serialize}
 use Rattle.building.specs.Builder.{State, Call, pushOpcode, pushSlice, intOpcode, pushNumber, pushInt, verifyForm, pushVerified, pushVerify, opcodeIn, unlessRefused, lastIfOpcode, takesOver}
-use Rattle.building.specs.Lent.{notLast, builderSays, builtSays, within, leaves, calls}
+use Rattle.building.specs.Lent.{notLast, builderSays, builtSays, within, leaves, calls, EndsIn, Ends}
 use Rattle.building.proofs.Passed.{passes}
 
 -- ---- what a call remembers is its last byte
-
-abbrev EndsIn : Said State → Type 0
-EndsIn (answers st) = notLast (st .remembered) (length (st .bytes)) (st .bytes) ≡ false
-EndsIn (refuses number values) = Unit {0}
-
-abbrev pub Ends : Call → Type 0
-Ends call = (st : State) → EndsIn (call st)
 
 pub opcode-ends : (code : ℕ) → Ends (pushOpcode code)
 opcode-ends code st =

@@ -9,3 +9,5 @@ pub mod Reading
 pub mod Exactly
 pub mod Handed
 pub mod Core
+pub mod Demand
+pub mod Whole

@@ -49,6 +49,11 @@ enough minimal s (suc n) (suc k) p a b =
     let q = nextAt minimal s p in
     rest-same s p q (walkSays minimal s p) _ _ (moves minimal s p refl refl) (λ l h. enough minimal s n k q (omega arith) (omega arith))
 
+-- A call for each byte and one more are turns enough, and more change nothing.
+pub walk-turns : (minimal : Bool) (s : List ℕ) (p n : ℕ) → length s - p < n → walkFor n minimal s p ≡ walkFrom minimal s p
+unfolding walkFrom
+walk-turns minimal s p n h = enough minimal s n (suc (length s - p)) p h (omega arith)
+
 pub unroll : (minimal : Bool) (s : List ℕ) (p : ℕ) → walkFrom minimal s p ≡ continue (walkSays minimal s p) (walkFrom minimal s (nextAt minimal s p))
 unfolding walkFrom walkFor
 unroll minimal s p =

@@ -5,6 +5,7 @@ use mathlib.Core.List.{List, [], _∷_, _++_}
 use Prim.Native.Nat.{ℕ, zero, suc, _+_, _/_, _%_, _≤_, _<_}
 use lib.Dec.{ltb, leb, eqb}
 use lib.ListN.{length, getD, take, drop}
+pub use Rattle.laws.specs.Bytes.{Bytes}
 use Rattle.opcodes.specs.Opcode.{PushForm, direct, pushdata1, pushdata2, pushdata4, lengthBytes}
 
 -- 'An instruction is an opcode byte above 78, or a push form with a body'
@@ -18,10 +19,6 @@ mostStated direct = 75
 mostStated pushdata1 = 0xff
 mostStated pushdata2 = 0xffff
 mostStated pushdata4 = 0xffff_ffff
-
--- each element is a byte; past the end `getD` gives 0
-abbrev pub Bytes : List ℕ → Type 0
-Bytes s = (i : ℕ) → getD s i 0 < 256
 
 -- an opcode byte above 78, or a body of bytes that its form can state
 abbrev pub Stands : Instruction → Type 0

@@ -12,7 +12,7 @@ use Rattle.laws.specs.Choice.{if_then_else_}
 use Rattle.laws.specs.Buffer.{writes}
 use Rattle.laws.proofs.Test.{by-test}
 use Rattle.fixed.specs.Fixed.{versionOf, witnessVersion, isWitnessProgram}
-use Rattle.witness.specs.Program.{versionByte, wrongV0, witnessBytes, witnessSays, programOf}
+use Rattle.witness.specs.Program.{versionByte, wrongV0, witnessBytes, witnessSays, ReadsBack}
 
 pub bytes-length : (version : ℕ) (program : List ℕ) → length (witnessBytes version program) ≡ length program + 2
 unfolding witnessBytes
@@ -25,11 +25,6 @@ unfolding witnessSays
 taken-program version program room v l m w = rw (le-ltb 16 version v, le-ltb (length program) 2 l, le-ltb 40 (length program) m, w)
 
 -- ---- read back
-
-pub record ReadsBack (version : ℕ) (program s : List ℕ) : Type 0 where
-  pub witness : isWitnessProgram s ≡ true
-  pub version-is : versionOf s ≡ version
-  pub program-is : programOf s ≡ program
 
 -- what a version byte is, and says
 Byte : ℕ → ℕ → Type 0

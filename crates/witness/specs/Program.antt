@@ -1,5 +1,6 @@
 -- A witness program as a script: BIP 141, 'Witness program', and document 01, 'Witness program'. Assumes nothing.
-use mathlib.Core.Bool.{Bool, not, _&&_, _||_}
+use mathlib.Core.Path.{_≡_}
+use mathlib.Core.Bool.{Bool, true, not, _&&_, _||_}
 use mathlib.Core.List.{List, [], _∷_}
 use Prim.Native.Nat.{ℕ, _+_}
 use lib.Dec.{ltb, eqb}
@@ -7,6 +8,7 @@ use lib.ListN.{length, drop}
 use Rattle.laws.specs.Choice.{if_then_else_}
 use Rattle.laws.specs.Said.{Said, refuses}
 use Rattle.laws.specs.Buffer.{writes}
+use Rattle.fixed.specs.Fixed.{versionOf, isWitnessProgram}
 
 -- 'version byte 0 or 0x50 + version'
 abbrev pub versionByte : ℕ → ℕ
@@ -31,3 +33,9 @@ witnessSays version program room =
 -- the bytes after the version and the length
 abbrev pub programOf : List ℕ → List ℕ
 programOf s = drop 2 s
+
+-- a script is a witness program of this version with this program
+pub record ReadsBack (version : ℕ) (program s : List ℕ) : Type 0 where
+  pub witness : isWitnessProgram s ≡ true
+  pub version-is : versionOf s ≡ version
+  pub program-is : programOf s ≡ program
