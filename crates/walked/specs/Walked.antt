@@ -28,7 +28,7 @@ abbrev pub atMostOp16 : Item → Bool
 atMostOp16 (opcode place code) = leb code OP-16
 atMostOp16 (push place form body len) = true
 
--- CScript::IsPushOnly of Core's script/script.cpp, in document 01's words: plain walk without refusal, every opcode at most 0x60
+-- document 01's words, which `push-only-core` puts beside Core's loop: plain walk without refusal, every opcode at most 0x60
 abbrev pub pushOnlyRun : Run → Bool
 pushOnlyRun run = unrefused (ending run) && every atMostOp16 (items run)
 
