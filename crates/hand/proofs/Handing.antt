@@ -19,6 +19,7 @@ use Rattle.building.specs.Lent.{Outcome, calls}
 use Rattle.hand.specs.Handed.{
   Handed,
   handed,
+  SHORT-VALUES,
   numberSaid,
   valuesSaid,
   into,
@@ -33,7 +34,7 @@ use Rattle.hand.specs.Handed.{
 }
 use Rattle.laws.proofs.Stored.{stored-front}
 
-pub short : {E : Type 0} {least : ℕ} (number : ℕ) (row old : List E) → length old < least → handed 7 old ≡ into least number row old
+pub short : {E : Type 0} {least : ℕ} (number : ℕ) (row old : List E) → length old < least → handed SHORT-VALUES old ≡ into least number row old
 short {least = least} number row old h = rw (lt-ltb (length old) least h) refl
 
 pub roomy : {E : Type 0} {least number r : ℕ} {row v new : List E} (old : List E) → least ≤ length old → number ≡ r → row ≡ v
@@ -60,8 +61,24 @@ few ProgramLengthV0 = omega arith
 few BadVersion = omega arith
 few BadBuilder = omega arith
 
+-- no refusal has the number that a slice which is too short has
+pub number-apart : (why : Refusal) → refusals.numberOf why < SHORT-VALUES
+number-apart TooLong = omega arith
+number-apart (NonMinimal place) = omega arith
+number-apart (EarlyEnd place) = omega arith
+number-apart NumberTooLong = omega arith
+number-apart NumberNotMinimal = omega arith
+number-apart NumberOutOfRange = omega arith
+number-apart (NoRoom needed) = omega arith
+number-apart BadCursor = omega arith
+number-apart FeeTooLarge = omega arith
+number-apart ProgramLength = omega arith
+number-apart ProgramLengthV0 = omega arith
+number-apart BadVersion = omega arith
+number-apart BadBuilder = omega arith
+
 module _ {A : Type 0} {least : ℕ} (row : A → List ℕ) (said : Said A) (old : List ℕ) where
-  pub says-short : length old < least → handed 7 old ≡ says least row said old
+  pub says-short : length old < least → handed SHORT-VALUES old ≡ says least row said old
   unfolding says
   says-short h = short (numberSaid said) (valuesSaid row said) old h
 
@@ -78,7 +95,7 @@ module _ {A : Type 0} {least : ℕ} (row : A → List ℕ) (said : Said A) (old 
       roomy old h (ap numberSaid e ∙ sym (g .0)) (ap (valuesSaid row) e) (g .1 ∙ stored-front (refusals.valuesOf why) old f)
 
 module _ {least : ℕ} (row old : List ℕ) where
-  pub gives-short : length old < least → handed 7 old ≡ gives least row old
+  pub gives-short : length old < least → handed SHORT-VALUES old ≡ gives least row old
   unfolding gives
   gives-short h = short 0 row old h
 
@@ -86,7 +103,7 @@ module _ {least : ℕ} (row old : List ℕ) where
   unfolding gives
   gives-row h g = roomy {number = 0} {row = row} old h refl refl g
 
-pub reads-short : (said : Said ℤ) (old : List ℤ) → length old < 1 → handed 7 old ≡ reads said old
+pub reads-short : (said : Said ℤ) (old : List ℤ) → length old < 1 → handed SHORT-VALUES old ≡ reads said old
 unfolding reads
 reads-short (answers n) old h = short 0 (n ∷ []) old h
 reads-short (refuses n v) old h = short n [] old h
@@ -118,7 +135,7 @@ brief (found (opcode place code)) = omega arith
 brief (found (push place form body len)) = omega arith
 
 module _ (next : ℕ) (said : Said Walked) (old : List ℕ) where
-  pub steps-short : length old < 6 → handed 7 old ≡ steps next said old
+  pub steps-short : length old < 6 → handed SHORT-VALUES old ≡ steps next said old
   unfolding steps
   steps-short h = short (numberSaid said) (next ∷ valuesSaid walkedRow said) old h
 
@@ -140,7 +157,7 @@ module _ (o : Outcome) (old : List ℕ) where
   abbrev state : List ℕ → List ℕ
   state vs = o .used ∷ (rememberedAs (o .remembered) ∷ vs)
 
-  pub builds-short : length old < 3 → handed 7 old ≡ builds o old
+  pub builds-short : length old < 3 → handed SHORT-VALUES old ≡ builds o old
   unfolding builds
   builds-short h = short (numberSaid (o .said)) (state (valuesSaid (λ done. []) (o .said))) old h
 

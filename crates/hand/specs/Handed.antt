@@ -29,9 +29,13 @@ valuesSaid row (refuses n values) = values
 pub data Handed (E : Type 0) : Type 0 where
   handed : (r : ℕ) (values : List E) → Handed E
 
--- 'a lent slice that is too short is refusal 7 and untouched'; else the values stand at its front, where so many entries are needed
+-- what a call returns that is lent too short a slice for its answer: a mistake of the caller's, and no refusal. Document 01's numbers end at 13.
+abbrev pub SHORT-VALUES : ℕ
+SHORT-VALUES = 255
+
+-- a slice with fewer entries than are needed is left as it was, whatever would be answered; else the values stand at its front
 abbrev pub into : {E : Type 0} (least number : ℕ) (row old : List E) → Handed E
-into least number row old = if ltb (length old) least then handed 7 old else handed number (row ++ drop (length row) old)
+into least number row old = if ltb (length old) least then handed SHORT-VALUES old else handed number (row ++ drop (length row) old)
 
 -- a call that says this
 unfoldable pub says : {A : Type 0} (least : ℕ) (row : A → List ℕ) (said : Said A) (old : List ℕ) → Handed ℕ
@@ -114,9 +118,9 @@ builds o old = into 3 (numberSaid (o .said)) (o .used ∷ (rememberedAs (o .reme
 unfoldable pub steps : (next : ℕ) → Said Walked → List ℕ → Handed ℕ
 steps next said old = into 6 (numberSaid said) (next ∷ valuesSaid walkedRow said) old
 
--- the same, with the place lent in a slice of its own, which may be too short as well
+-- the same, with the place lent in a slice of its own; one without an entry is the same mistake
 unfoldable pub advances : (cursor : List ℕ) (next : ℕ) → Said Walked → List ℕ → Handed ℕ
-advances cursor next said old = if ltb (length cursor) 1 then handed 7 old else steps next said old
+advances cursor next said old = if ltb (length cursor) 1 then handed SHORT-VALUES old else steps next said old
 
 -- that slice after the call: moved on, unless one of the two is too short
 unfoldable pub movedTo : (next : ℕ) (cursor values : List ℕ) → List ℕ

@@ -1,5 +1,5 @@
 // The walk by numbers: where it stands goes in, and comes back with what stands there.
-use hand::NO_ROOM;
+use hand::SHORT_VALUES;
 use opcodes::Class;
 use walk::Cursor;
 use walk::Found;
@@ -56,7 +56,7 @@ fn step(answer: Stepped, values: &mut [u64]) -> u32
     ensures { λ r. ⌜ handed r (now (values .exit)) ≡ steps (answer .next .at) (saidFound (answer .found)) (now (values .entry)) ⌝ }
 {
     if values.len() < STEP_VALUES {
-        return NO_ROOM;
+        return SHORT_VALUES;
     }
     let next = answer.next;
     let found = answer.found;
@@ -120,7 +120,7 @@ pub fn next(script: &[u8], at: usize, mode: u32, values: &mut [u64]) -> u32
     ensures { λ r. ⌜ handed r (now (values .exit)) ≡ steps (nextAt (minimalOf mode) (now (script .entry)) at) (walkSays (minimalOf mode) (now (script .entry)) at) (now (values .entry)) ⌝ }
 {
     if values.len() < STEP_VALUES {
-        return NO_ROOM;
+        return SHORT_VALUES;
     }
     let mode = mode_of(mode);
     let size = Cursor { at }.size(script, mode);
@@ -162,10 +162,10 @@ pub fn advance(cursor: &mut [u64], script: &[u8], mode: u32, values: &mut [u64])
     ensures { λ r. ⌜ (handed r (now (values .exit)) ≡ advances (now (cursor .entry)) (nextAt (minimalOf mode) (now (script .entry)) (getD (now (cursor .entry)) 0 0)) (walkSays (minimalOf mode) (now (script .entry)) (getD (now (cursor .entry)) 0 0)) (now (values .entry))) × (now (cursor .exit) ≡ movedTo (nextAt (minimalOf mode) (now (script .entry)) (getD (now (cursor .entry)) 0 0)) (now (cursor .entry)) (now (values .entry))) ⌝ }
 {
     if cursor.len() < 1 {
-        return NO_ROOM;
+        return SHORT_VALUES;
     }
     if values.len() < STEP_VALUES {
-        return NO_ROOM;
+        return SHORT_VALUES;
     }
     let at = cursor[0] as usize;
     let stepped = Cursor { at }.next(script, mode_of(mode));
