@@ -51,6 +51,18 @@ unfolding lowBytes
 nothing zero = refl
 nothing (suc turns) = refl
 
+same-bytes : (a b m : ℕ) → m ≤ a → m ≤ b → lowBytes a m ≡ lowBytes b m
+unfolding lowBytes
+same-bytes zero b zero h g = sym (nothing b)
+same-bytes zero b (suc n) h g = absurd (omega arith)
+same-bytes (suc a) b zero h g = sym (nothing b)
+same-bytes (suc a) zero (suc n) h g = absurd (omega arith)
+same-bytes (suc a) (suc b) (suc n) h g = ap (λ (v : List ℕ). suc n % 256 ∷ v) (same-bytes a b (suc n / 256) (omega arith) (omega arith))
+
+-- As many turns as the magnitude are enough for serialize's loop: more change nothing.
+pub low-bytes-turns : (turns m : ℕ) → m ≤ turns → lowBytes turns m ≡ lowBytes m m
+low-bytes-turns turns m h = same-bytes turns m m h (omega arith)
+
 turns-enough : (neg : Bool) (turns m : ℕ) → m ≤ turns → 0 < m → Coded (bit neg) m (closeSign neg (lowBytes turns m))
 unfolding lowBytes
 turns-enough neg zero m h p = absurd (omega arith)
