@@ -11,7 +11,7 @@ use Rattle.laws.specs.Choice.{if_then_else_}
 use Rattle.laws.proofs.Test.{by-test}
 use Rattle.opcodes.specs.Core.{OP-PUSHDATA1, OP-PUSHDATA2, OP-PUSHDATA4, OP-INVALIDOPCODE}
 use Rattle.script.specs.Script.{ScriptOp, fails, reads, readLE, assign, sized, operand, getScriptOp}
-use Rattle.counts.specs.Count.{sigOps, turn, while, getSigOpCount}
+use Rattle.counts.specs.Count.{turn, while, getSigOpCount}
 
 -- what is read at pc ends further on
 abbrev Further : ℕ → ScriptOp → Type 0
@@ -48,7 +48,7 @@ module _ (acc : Bool) (s : List ℕ) where
   same-turn : (pc n last : ℕ) (o : ScriptOp) → Further pc o → (f g : ℕ → ℕ → ℕ → ℕ) → ((q m code : ℕ) → pc < q → f q m code ≡ g q m code)
       → turn acc n last o f ≡ turn acc n last o g
   same-turn pc n last fails h f g e = refl
-  same-turn pc n last (reads code vch q) h f g e = e q (n + sigOps acc last code) code h
+  same-turn pc n last (reads code vch q) h f g e = e q _ _ h
 
   enough : (a b pc n last : ℕ) → length s ≤ a + pc → length s ≤ b + pc → while a acc s pc n last ≡ while b acc s pc n last
   unfolding while
