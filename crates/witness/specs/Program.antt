@@ -2,7 +2,7 @@
 use mathlib.Core.Path.{_≡_}
 use mathlib.Core.Bool.{Bool, true, not, _&&_, _||_}
 use mathlib.Core.List.{List, [], _∷_}
-use Prim.Native.Nat.{ℕ, _+_}
+use Prim.Native.Nat.{ℕ, _+_, _≤_}
 use lib.Dec.{ltb, eqb}
 use lib.ListN.{length, drop}
 use Rattle.laws.specs.Choice.{if_then_else_}
@@ -39,3 +39,7 @@ pub record ReadsBack (version : ℕ) (program s : List ℕ) : Type 0 where
   pub witness : isWitnessProgram s ≡ true
   pub version-is : versionOf s ≡ version
   pub program-is : programOf s ≡ program
+
+-- a version's opcode, a direct push of 2 to 40 bytes, which is their number and then they, and nothing else
+abbrev pub VersionAndPush : List ℕ → Type 0
+VersionAndPush s = (version : ℕ) × (program : List ℕ) × (s ≡ witnessBytes version program) × (version ≤ 16) × (2 ≤ length program) × (length program ≤ 40)
