@@ -36,7 +36,8 @@ module _ (s : List ℕ) (pc : ℕ) where
       by-test (Further pc) (leb code OP-PUSHDATA4)
       (λ e. by-test (Further pc) (ltb code OP-PUSHDATA1) (λ e. assigned code code (pc + 1) h) λ e.
       by-test (Further pc) (eqb code OP-PUSHDATA1) (λ e. after-length 1 code (pc + 1) h) λ e.
-      by-test (Further pc) (eqb code OP-PUSHDATA2) (λ e. after-length 2 code (pc + 1) h) (λ e. after-length 4 code (pc + 1) h))
+      by-test (Further pc) (eqb code OP-PUSHDATA2) (λ e. after-length 2 code (pc + 1) h) λ e.
+      by-test (Further pc) (eqb code OP-PUSHDATA4) (λ e. after-length 4 code (pc + 1) h) (λ e. assigned code 0 (pc + 1) h))
       (λ e. h)
 
 module _ (acc : Bool) (s : List ℕ) where
