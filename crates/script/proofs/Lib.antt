@@ -1,3 +1,4 @@
+pub mod Examples
 pub mod Little
 pub mod Minimal
 pub mod Step
