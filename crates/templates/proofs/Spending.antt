@@ -1,6 +1,6 @@
 -- The script code is stored in three runs: three bytes, the hash, two bytes. Assumes nothing.
 use mathlib.Core.Path.{_≡_, refl, sym, ap, _∙_}
-use mathlib.Core.Bool.{true, false, _&&_}
+use mathlib.Core.Bool.{Bool, true, false, _&&_}
 use mathlib.Core.Option.{Option, none, some}
 use mathlib.Core.List.{List, [], _∷_, _++_}
 use Prim.Native.Nat.{ℕ, _+_, _-_, _≤_, _<_}
@@ -11,10 +11,10 @@ use lib.ListN.{length, drop, set, length-append, length-drop}
 use lib.Seq.{sets}
 use Rattle.laws.specs.Choice.{if_then_else_}
 use Rattle.laws.specs.Said.{Said, answers, refuses}
-use Rattle.laws.specs.Buffer.{after}
+use Rattle.laws.specs.Buffer.{writes, after}
 use Rattle.laws.proofs.Stored.{stored-both, stored-front}
 use Rattle.refusal.specs.Refusal.{limit}
-use Rattle.fixed.specs.Fixed.{versionOf, isProgramOf, codeFor, scriptCode, isWitnessProgram}
+use Rattle.fixed.specs.Fixed.{versionOf, isPayToWitnessPubkeyHash, isProgramOf, codeFor, scriptCode, isWitnessProgram}
 use Rattle.templates.specs.Says.{asSome, codeSays}
 use Rattle.laws.proofs.Test.{and-right}
 
@@ -53,7 +53,10 @@ module _ (s old : List ℕ) where
   -- over the limit
   pub code-too-long : limit < length s → (refuses 1 [] ≡ says) × (old ≡ after says (scriptCode s) old)
   unfolding codeSays
-  code-too-long h = rw (lt-ltb limit (length s) h) (refl, refl)
+  code-too-long h =
+      let e : refuses 1 [] ≡ says =
+      sym (ap (λ (over : Bool). if over then refuses 1 [] else if isPayToWitnessPubkeyHash s then asSome (writes (scriptCode s) (length old)) else answers none) (lt-ltb limit (length s) h)) in
+      (e, ap (λ said. after said (scriptCode s) old) e)
 
   module _ (l : length s ≤ limit) where
     -- no P2WPKH
