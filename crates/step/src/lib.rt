@@ -123,7 +123,7 @@ pub fn next(script: &[u8], at: usize, mode: u32, values: &mut [u64]) -> u32
         return NO_ROOM;
     }
     let mode = mode_of(mode);
-    let size = Cursor { at }.size(script, mode);
+    let size = walk::whole_size(script, at, mode);
     if size == 0 {
         let stepped = Cursor { at }.next(script, mode);
         return step(stepped, values);
