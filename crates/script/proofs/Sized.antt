@@ -6,12 +6,12 @@ use mathlib.Core.List.{List}
 use Prim.Native.Nat.{ℕ, _+_, _-_, _≤_, _<_}
 use native.Mathlib.Omega.{arith}
 use lib.ListN.{length, getD}
-use Rattle.laws.specs.Said.{Said, answers, refuses}
+use Rattle.laws.specs.Said.{Said, answers, refuses, unless}
 use Rattle.laws.proofs.Test.{lt-or-le}
 use Rattle.refusal.specs.Refusal.{limit}
 use Rattle.opcodes.specs.Opcode.{PushForm, lengthBytes, Sort, sortOf, lengthBytesAfter}
 use Rattle.opcodes.specs.Opcode as sort
-use Rattle.script.specs.Walk.{Item, Walked, end, found, opcode, push, walked, walkSays, nextAt, sizeSaid}
+use Rattle.script.specs.Walk.{Item, Walked, end, found, opcode, push, walked, walkSays, nextAt, sizeSaid, sizeSays}
 use Rattle.script.specs.Run.{stop, item, walkFrom}
 use Rattle.script.specs.Instruction.{Bytes}
 use Rattle.script.specs.Steps.{stated, tooShort}
@@ -144,3 +144,29 @@ module _ (minimal : Bool) (s : List ℕ) (at : ℕ) (z : sizeSaid (walkSays mini
 
   pub stops : walkFrom minimal s at ≡ stop (walkSays minimal s at)
   stops = stopped (walkSays minimal s at) refl
+
+-- what is said of the size: the call's refusal, or its size
+module _ (minimal : Bool) (s : List ℕ) (at : ℕ) where
+  abbrev there : Said Walked
+  there = walkSays minimal s at
+
+  pub says-size : {a : Said Walked} → there ≡ a → unless a (answers (sizeSaid a)) ≡ sizeSays minimal s at
+  unfolding sizeSays
+  says-size e = ap (λ (a : Said Walked). unless a (answers (sizeSaid a))) (sym e)
+
+  -- where a size is told the call is not refused
+  pub size-told : {A : Type 0} {n : ℕ} (said : Said A) → answers n ≡ sizeSays minimal s at → unless there said ≡ said
+  unfolding sizeSays
+  size-told {n = n} said e = go there e
+    where
+      go : (a : Said Walked) → answers n ≡ unless a (answers (sizeSaid a)) → unless a said ≡ said
+      go (answers w) e = refl
+      go (refuses number values) e = cc
+
+  pub size-refused : {number : ℕ} {values : List ℕ} → refuses number values ≡ sizeSays minimal s at → there ≡ refuses number values
+  unfolding sizeSays
+  size-refused {number} {values} e = go there e
+    where
+      go : (a : Said Walked) → refuses number values ≡ unless a (answers (sizeSaid a)) → a ≡ refuses number values
+      go (answers w) e = cc
+      go (refuses number values) e = cc

@@ -5,7 +5,7 @@ use Prim.Native.Nat.{ℕ, _+_}
 use lib.Dec.{ltb, leb, eqb}
 use lib.ListN.{length, getD}
 use Rattle.laws.specs.Choice.{if_then_else_}
-use Rattle.laws.specs.Said.{Said, answers, refuses}
+use Rattle.laws.specs.Said.{Said, answers, refuses, unless}
 use Rattle.refusal.specs.Refusal.{withinLimit}
 use Rattle.opcodes.specs.Opcode.{PushForm, direct, pushdata1, pushdata2, pushdata4, lengthBytes, Sort, sortOf}
 use Rattle.opcodes.specs.Opcode as sort
@@ -78,6 +78,10 @@ abbrev pub sizeSaid : Said Walked → ℕ
 sizeSaid (answers end) = 0
 sizeSaid (answers (found i)) = sizeOf i
 sizeSaid (refuses number values) = 0
+
+-- what is said of the size at a place: the call's refusal, or the size
+unfoldable pub sizeSays : Bool → List ℕ → ℕ → Said ℕ
+sizeSays minimal s at = unless (walkSays minimal s at) (answers (sizeSaid (walkSays minimal s at)))
 
 -- the cursor after a call: past the instruction; after 2 and 3 at the script's end; else unchanged
 abbrev pub moved : Said Walked → List ℕ → ℕ → ℕ

@@ -123,7 +123,7 @@ pub fn next(script: &[u8], at: usize, mode: u32, values: &mut [u64]) -> u32
         return SHORT_VALUES;
     }
     let mode = mode_of(mode);
-    let size = Cursor { at }.size(script, mode);
+    let size = walk::whole_size(script, at, mode);
     if size == 0 {
         let stepped = Cursor { at }.next(script, mode);
         return step(stepped, values);
@@ -157,6 +157,18 @@ pub fn body(script: &[u8], at: usize, mode: u32, values: &mut [u64]) -> u32
     body_of(answer, values)
 }
 
+// What stands at a place, and the cursor for the next call: a cursor at that place, lent to the walk and moved on.
+fn moved_on(at: usize, script: &[u8], mode: Mode) -> Stepped
+    ensures { λ r. ⌜ (saidFound (r .found) ≡ walkSays (isMinimal mode) (now (script .entry)) at) × (r .next .at ≡ nextAt (isMinimal mode) (now (script .entry)) at) ⌝ }
+{
+    let mut cursor = Cursor { at };
+    let found = walk::advance(&mut cursor, script, mode);
+    Stepped {
+        found,
+        next: cursor,
+    }
+}
+
 // What stands at a lent place, which is then moved on.
 pub fn advance(cursor: &mut [u64], script: &[u8], mode: u32, values: &mut [u64]) -> u32
     ensures { λ r. ⌜ (handed r (now (values .exit)) ≡ advances (now (cursor .entry)) (nextAt (minimalOf mode) (now (script .entry)) (getD (now (cursor .entry)) 0 0)) (walkSays (minimalOf mode) (now (script .entry)) (getD (now (cursor .entry)) 0 0)) (now (values .entry))) × (now (cursor .exit) ≡ movedTo (nextAt (minimalOf mode) (now (script .entry)) (getD (now (cursor .entry)) 0 0)) (now (cursor .entry)) (now (values .entry))) ⌝ }
@@ -168,7 +180,7 @@ pub fn advance(cursor: &mut [u64], script: &[u8], mode: u32, values: &mut [u64])
         return SHORT_VALUES;
     }
     let at = cursor[0] as usize;
-    let stepped = Cursor { at }.next(script, mode_of(mode));
+    let stepped = moved_on(at, script, mode_of(mode));
     let next = stepped.next;
     cursor[0] = next.at as u64;
     step(stepped, values)
