@@ -22,6 +22,9 @@ DATA2 = script("4d 00 01") + run_of(7, 256)
 DATA1 = script("4c 4c") + run_of(7, 76)
 LONG_FORMS = [DATA2, DATA1, DATA1[:-1]]
 
+# The longest bodies for which two of the forms are too long, whole.
+WASTEFUL = [script("4c 4b") + run_of(7, 75), script("4d ff 00") + run_of(7, 255)]
+
 TABLES = ["51 52 ae", "51 01 05 ae", "51 52 02 ae"]
 
 # At the limit and one byte over it.
@@ -44,11 +47,19 @@ def found_words(found):
     return f" opcode at {place} code {code}"
 
 
+# The size of what was found, 0 at the end.
+def size_words(found):
+    if isinstance(found, paper.Refused):
+        return refused(found)
+    place, _, _, end = found or (0, 0, 0, 0)
+    return f" count {end - place}"
+
+
 # One call: its line, and the next cursor.
 def call(given, at, mode):
     found, after = paper.step(given, at, MODES[mode])
     part = paper.body_part(given, at, MODES[mode])
-    return f"{mode} at {at}:{found_words(found)} next {after} part {len(part)}\n", after
+    return f"{mode} at {at}:{found_words(found)} next {after} part {len(part)} size{size_words(found)}\n", after
 
 
 # Three calls in each mode, each given the cursor that the one before gave back.
@@ -83,7 +94,7 @@ def long_lines(given):
 
 
 def output():
-    for given in [script(text) for text in WHOLE + ONE_BYTE + CUT] + LONG_FORMS:
+    for given in [script(text) for text in WHOLE + ONE_BYTE + CUT] + LONG_FORMS + WASTEFUL:
         yield from script_lines(given)
     for text in TABLES:
         yield from table_lines(script(text))
