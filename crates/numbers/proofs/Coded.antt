@@ -9,7 +9,7 @@ use native.Mathlib.Nat.{lt-of-not-le, lt-of-lt-of-le, pow-suc}
 use native.Mathlib.Omega.{arith}
 use borrow.Author.Tests.{le-leb, lt-leb}
 use lib.Count.{leading-top}
-use lib.ListN.{length, getD}
+use lib.ListN.{length}
 use lib.Pow.{pow-mono, pow-add}
 pub use Rattle.laws.specs.Bytes.{Bytes}
 use Rattle.laws.specs.Choice.{if_then_else_}

@@ -1,12 +1,12 @@
 -- Calls from a fresh cursor, computed: an opcode, a whole push, a push whose length byte is missing, the end. Assumes nothing.
 use mathlib.Core.Path.{_≡_, refl}
-use mathlib.Core.Bool.{Bool, false}
+use mathlib.Core.Bool.{false}
 use mathlib.Core.List.{List, [], _∷_}
 use Prim.Native.Nat.{ℕ}
-use Rattle.laws.specs.Said.{Said, answers, refuses}
+use Rattle.laws.specs.Said.{answers, refuses}
 use Rattle.opcodes.specs.Opcode.{direct}
 use Rattle.script.specs.Script.{readLE, assign, sized, operand, getScriptOp}
-use Rattle.script.specs.Walk.{Walked, end, found, opcode, push, notMinimal, walkSays, nextAt}
+use Rattle.script.specs.Walk.{end, found, opcode, push, notMinimal, walkSays, nextAt}
 use Rattle.script.specs.Calls.{position, call}
 
 -- 52 01 aa 4c

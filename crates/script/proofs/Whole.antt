@@ -2,20 +2,19 @@
 -- Assumes nothing.
 use mathlib.Core.Path.{_≡_, refl, sym, ap, _∙_}
 use mathlib.Core.Logic.{⊎-elim}
-use mathlib.Core.Bool.{Bool, true, false, _||_}
+use mathlib.Core.Bool.{Bool, _||_}
 use mathlib.Core.List.{List, [], _∷_, _++_, map, append-nil, append-assoc}
 use Prim.Native.Nat.{ℕ, zero, suc, _+_, _-_, _≤_, _<_}
 use native.Mathlib.Omega.{arith}
 use lib.Dec.{eqb}
 use lib.ListN.{length}
-use Rattle.laws.specs.Choice.{if_then_else_}
 use Rattle.laws.specs.Said.{Said, answers, refuses}
 use Rattle.laws.proofs.Test.{by-test, lt-or-le}
 use Rattle.refusal.specs.Refusal.{limit}
 use Rattle.script.specs.Walk.{Walked, end, found, walkSays, moved, nextAt}
 use Rattle.script.specs.Instruction.{Instruction}
 use Rattle.script.specs.Calls.{position, call, instructionOf, given, handed}
-use Rattle.script.specs.Run.{Run, stop, item, continue, walkFor, walkFrom, items, ending}
+use Rattle.script.specs.Run.{Run, stop, continue, walkFor, walkFrom, items, ending}
 use Rattle.script.proofs.Step.{too-long, at-end}
 use Rattle.script.proofs.Run.{moves}
 

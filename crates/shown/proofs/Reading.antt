@@ -1,6 +1,5 @@
 -- Reads never go past the buffer's end, and what is clamped to the room that is left is what the read's answer brought. Assumes nothing.
-use mathlib.Core.Path.{_≡_, refl}
-use Prim.Native.Nat.{ℕ, _-_, _≤_, _<_, min}
+use Prim.Native.Nat.{ℕ, _≤_}
 use native.Mathlib.Omega.{arith}
 use lib.IntN.{ℤ, pos, negsuc}
 use Rattle.libc.specs.Io.{Moved}

@@ -1,9 +1,8 @@
 -- What is proved of the calls holds of the code: any chain of outcomes that the contracts of `Cursor::new` and `Cursor::next` permit, each call given
 -- the cursor that the one before gave back, is these calls. Assumes nothing.
-use mathlib.Core.Path.{_≡_, sym, ap, _∙_}
+use mathlib.Core.Path.{_≡_, ap, _∙_}
 use mathlib.Core.List.{List}
-use Prim.Native.Nat.{ℕ, zero, suc, _≤_}
-use lib.ListN.{length}
+use Prim.Native.Nat.{ℕ, zero, suc}
 use contract.Lifetimes.{Lfts}
 use denote.Ref.{now}
 use denote.Triple.Entry.{Args}

@@ -1,7 +1,7 @@
 -- Core's loop over GetOp is the plain walk, turn by turn: what it reads is the walk's next instruction, and where it fails the walk refuses. Assumes nothing.
 use mathlib.Core.Path.{_≡_, refl, sym, ap, _∙_}
 use mathlib.Core.Logic.{⊎-elim}
-use mathlib.Core.Bool.{Bool, true, false, _&&_, and-false}
+use mathlib.Core.Bool.{true, false, and-false}
 use mathlib.Core.List.{List}
 use Prim.Native.Nat.{ℕ, zero, suc, _+_, _-_, _≤_, _<_}
 use native.Mathlib.Omega.{arith}
@@ -14,9 +14,9 @@ use Rattle.refusal.specs.Refusal.{limit}
 use Rattle.opcodes.specs.Core.{OP-16}
 use Rattle.opcodes.specs.Opcode.{sortOf}
 use Rattle.script.specs.Script.{ScriptOp, fails, reads, getScriptOp}
-use Rattle.script.specs.Walk.{end, found, walked, judged, walkSays, nextAt}
+use Rattle.script.specs.Walk.{found, walked, judged, walkSays, nextAt}
 use Rattle.script.specs.Instruction.{Bytes}
-use Rattle.script.specs.Run.{Run, stop, item, continue, walkFrom}
+use Rattle.script.specs.Run.{item, walkFrom}
 use Rattle.script.proofs.Step.{at-end, inside, by-sort}
 use Rattle.script.proofs.Run.{moves, turn}
 use Rattle.script.proofs.Core.{core-plain}

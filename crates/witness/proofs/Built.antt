@@ -13,7 +13,7 @@ use Rattle.laws.specs.Choice.{if_then_else_}
 use Rattle.laws.specs.Buffer.{writes}
 use Rattle.laws.proofs.Test.{by-test, and-left, and-right, either}
 use Rattle.opcodes.specs.Core.{decodeOP-N}
-use Rattle.fixed.specs.Fixed.{versionOf, witnessVersion, isWitnessProgram}
+use Rattle.fixed.specs.Fixed.{witnessVersion, isWitnessProgram}
 use Rattle.fixed.proofs.Versions.{program-long}
 use Rattle.witness.specs.Program.{versionByte, wrongV0, witnessBytes, witnessSays, ReadsBack, VersionAndPush}
 

@@ -7,8 +7,6 @@ use borrow.Author.Tests.{ltb-true}
 use lib.Dec.{T}
 use lib.IntN.{ℤ, pos, negsuc, natAbs}
 use lib.Signed.{ltZ, nonNeg, natAbs-le}
-use mir.Syntax.{w64}
-use mir.Val.{SFits, Fits, toZ, ofZ}
 use mir.Facts.{toZ-ofZ}
 use Rattle.shown.specs.Reads.{brought}
 use Rattle.shown.proofs.count.Statement.{statement}
