@@ -4,14 +4,18 @@
  * Link with target/staticlib/libboundary.a, which `rt staticlib boundary` makes (x86-64; beside it nothing but the C library).
  *
  * One convention for all functions:
- * - The result is the number of a refusal, one of BB_TOO_LONG .. below, or 0 where nothing is refused.
- * - Every slice is a pointer and, directly after it, the number of its entries. A pointer must be valid for that many entries and must not be
- *   NULL, even where there are none; slices that are written must overlap no other.
- * - The values of the answer stand at the front of the slice `values` after the call. Each function says how many entries `values` must have
- *   at least, and what they are; entries that an answer does not name are as they were. After a refusal the first entry is the place
- *   (refusals 2 and 3) or what is needed (7), and else as it was; the walk and the builder have their state in front of that.
- * - Where `values` has too few entries the result is BB_NO_ROOM and nothing at all is changed, `values` included.
- * - A refused call changes no byte of any other slice that it is lent; on success what lies behind the written bytes is as it was.
+ * - The result is 0; or the number of a refusal, one of BB_TOO_LONG to BB_BAD_BUILDER below; or BB_SHORT_VALUES, which is no refusal but a mistake
+ *   in the call.
+ * - Every slice is a pointer and, directly after it, the number of its entries. A pointer must be valid for that many entries and aligned for them;
+ *   where there are none it is not used, and may be NULL. Slices that are written must overlap no other.
+ * - `values` (`number`, where it is called so) is the answer's own place. Each function says how many entries it must have at least, and what they
+ *   are. The values of the answer stand at its front after the call; entries that an answer does not name are as they were.
+ * - On a refusal the refusal's values stand at its front: the place (refusals 2 and 3) or what is needed (7), one entry; the others have none. The walk
+ *   (bb_next, bb_advance) and the builder have their state before them. The entries behind are as they were.
+ * - All other slices are as they were after a refusal, save one: refusals 2 and 3 move the cursor that bb_advance is lent to the script's end. On success
+ *   what lies behind the written bytes or entries is as it was.
+ * - Where `values` has too few entries, or the cursor of bb_advance none, the result is BB_SHORT_VALUES, whatever the answer would be, and nothing at
+ *   all is changed, `values` included. So 7 always means that an output is too short, and stands beside what is needed.
  * - A script is at most 4,194,304 bytes long; a longer one is BB_TOO_LONG.
  */
 #ifndef BRINEBUTTON_H
@@ -38,6 +42,9 @@ extern "C" {
 #define BB_PROGRAM_LENGTH_V0 11  /* version 0 and neither 20 nor 32 bytes */
 #define BB_BAD_VERSION 12        /* a version above 16 */
 #define BB_BAD_BUILDER 13        /* a length above the buffer's, or what is remembered is not the last used byte */
+
+/* No refusal: `values`, or the cursor of bb_advance, has too few entries. Nothing is changed. */
+#define BB_SHORT_VALUES 255
 
 /* The walk's mode. Any other number is the minimal mode too. */
 #define BB_PLAIN 0
@@ -107,7 +114,10 @@ uint32_t bb_cursor_new(uint64_t *values, size_t values_len);
 uint32_t bb_next(const uint8_t *script, size_t script_len, size_t at, uint32_t mode, uint64_t *values, size_t values_len);
 /* The body of the push at a place. values, 2 entries: where it lies and its length; 0 and 0 where bb_next gives no push, refusals included. Not refused. */
 uint32_t bb_body(const uint8_t *script, size_t script_len, size_t at, uint32_t mode, uint64_t *values, size_t values_len);
-/* As bb_next, with the place lent and moved on: cursor, 1 entry. values, 6 entries: as those of bb_next. Refused: as bb_next; a cursor slice of no entry is 7. */
+/*
+ * As bb_next, with the place lent and moved on: cursor, 1 entry, which is then the place for the next call, as the first value is. values, 6 entries: as
+ * those of bb_next. Refused: as bb_next; 2 and 3 move the cursor to the script's end, 1 and 8 leave it.
+ */
 uint32_t bb_advance(uint64_t *cursor, size_t cursor_len, const uint8_t *script, size_t script_len, uint32_t mode, uint64_t *values, size_t values_len);
 /* Every instruction's place, into a table. values, 1 entry: how many. Refused: 1, 2 or 3, 7 with the entries needed. */
 uint32_t bb_positions(const uint8_t *script, size_t script_len, uint32_t mode, uint32_t *table, size_t table_len, uint64_t *values, size_t values_len);

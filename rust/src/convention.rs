@@ -1,6 +1,7 @@
-//! What include/brinebutton.h says of every function: values that are too few are refusal 7 and nothing is changed; a refused call
-//! changes no byte that it is lent.
+//! What include/brinebutton.h says of every function: values that are too few have a number of their own, and nothing is changed; a
+//! refused call changes of what it is lent only the front of the values, and `bb_advance` its cursor; a slice without entries may be NULL.
 
+use std::ptr::{null_mut, NonNull};
 use std::vec::Vec;
 
 use crate::ffi::*;
@@ -17,11 +18,13 @@ fn lend(count: usize, ask: Ask) -> (u32, [u64; 10]) {
     (number, all)
 }
 
-/// With `needed` values the call answers `number` and writes at most those; with fewer it is refusal 7 and nothing is written.
+/// With `needed` values the call answers `number` and writes at most those; with fewer it is no refusal but `SHORT_VALUES`, and nothing is
+/// written.
 fn needs(name: &str, needed: usize, number: u32, ask: Ask) {
     for fewer in 0..needed {
-        assert_eq!(lend(fewer, ask), (7, [LENT; 10]), "{name} with {fewer} values");
+        assert_eq!(lend(fewer, ask), (SHORT_VALUES, [LENT; 10]), "{name} with {fewer} values");
     }
+    assert_eq!(ask(null_mut(), 0), SHORT_VALUES, "{name} with NULL");
     for more in 0..3 {
         let (got, all) = lend(needed + more, ask);
         assert_eq!(got, number, "{name}");
@@ -100,8 +103,9 @@ fn lent_bytes_when_values_are_too_few() {
     for (name, needed, write) in writers {
         for fewer in 0..needed {
             let mut out = [0xac_u8; 200];
-            assert_eq!(lend(fewer, &mut |v, c| write(out.as_mut_ptr(), 200, v, c)), (7, [LENT; 10]), "{name}");
-            assert_eq!(out, [0xac; 200], "{name} with {fewer} values");
+            let got = lend(fewer, &mut |v, c| write(out.as_mut_ptr(), 200, v, c));
+            assert_eq!((got, out), ((SHORT_VALUES, [LENT; 10]), [0xac; 200]), "{name} with {fewer} values");
+            assert_eq!(write(out.as_mut_ptr(), 0, null_mut(), 0), SHORT_VALUES, "{name} with neither room nor values");
         }
         let mut out = [0xac_u8; 200];
         assert_eq!(lend(needed, &mut |v, c| write(out.as_mut_ptr(), 200, v, c)).0, 0, "{name}");
@@ -114,13 +118,13 @@ fn the_table_the_cursor_and_the_number() {
     let s = [0x51, 0x52];
     let mut table = [LENT as u32; 4];
     let none = lend(0, &mut |v, c| unsafe { bb_positions(s.as_ptr(), 2, PLAIN, table.as_mut_ptr(), 4, v, c) });
-    assert_eq!((none, table), ((7, [LENT; 10]), [LENT as u32; 4]));
+    assert_eq!((none, table), ((SHORT_VALUES, [LENT; 10]), [LENT as u32; 4]));
 
     let mut cursor = [1, LENT];
     for (places, values) in [(0, 6), (1, 5), (1, 0), (0, 0)] {
         let got =
             lend(values, &mut |v, c| unsafe { bb_advance(cursor.as_mut_ptr(), places, s.as_ptr(), 2, PLAIN, v, c) });
-        assert_eq!((got, cursor), ((7, [LENT; 10]), [1, LENT]));
+        assert_eq!((got, cursor), ((SHORT_VALUES, [LENT; 10]), [1, LENT]));
     }
 
     let mut number = [LENT as i64; 2];
@@ -131,7 +135,7 @@ fn the_table_the_cursor_and_the_number() {
                 bb_read_scriptint_non_minimal(bytes.as_ptr(), bytes.len(), number.as_mut_ptr(), 0),
             ]
         };
-        assert_eq!((refused, number), ([7, 7], [LENT as i64; 2]));
+        assert_eq!((refused, number), ([SHORT_VALUES; 2], [LENT as i64; 2]));
     }
 }
 
@@ -176,11 +180,118 @@ fn refused_calls_change_no_lent_byte() {
     }
 }
 
+/// Refusals 2 and 3 move a lent cursor to the script's end, 1 and 8 leave it. The place stands before the refusal's value.
+#[test]
+fn a_refused_advance() {
+    let s = [0x51, 0x01, 0x05, 0x02, 0xaa];
+    let long = std::vec![0x51; crate::MAX_SCRIPT_LEN + 1];
+    for (script, mode, number, at, next, value) in [
+        (&s[..], MINIMAL, 2, 1, 5, 1),
+        (&s[..], PLAIN, 3, 3, 5, 3),
+        (&s[..], PLAIN, 8, 6, 6, LENT),
+        (&long[..], PLAIN, 1, 3, 3, LENT),
+    ] {
+        let mut cursor = [at, LENT];
+        let got = lend(6, &mut |v, c| unsafe {
+            bb_advance(cursor.as_mut_ptr(), 1, script.as_ptr(), script.len(), mode, v, c)
+        });
+        let mut values = [LENT; 10];
+        values[1..3].copy_from_slice(&[next, value]);
+        assert_eq!((got, cursor), ((number, values), [next, LENT]));
+    }
+}
+
+/// A slice without entries may be NULL: the answer is that for one which points to a place, and for the dangling one that Rust makes.
+#[test]
+fn no_entries_at_null() {
+    let p2wpkh = [&[0x00, 0x14][..], &[9; 20]].concat();
+    let long = [0x51; 2801];
+    let (wp, one, body) = (p2wpkh.as_ptr(), [0x51].as_ptr(), [7; 32].as_ptr());
+    type Ask<'a> = &'a dyn Fn(*mut u8, *mut u64, usize) -> u32;
+    let asked: [(&str, u32, Ask); 59] = unsafe {
+        [
+            ("read_scriptint", 0, &|p, v, c| bb_read_scriptint(p, 0, v.cast(), c)),
+            ("read_scriptint_non_minimal", 0, &|p, v, c| bb_read_scriptint_non_minimal(p, 0, v.cast(), c)),
+            ("read_scriptint, no number", SHORT_VALUES, &|p, _, _| bb_read_scriptint(one, 1, p.cast(), 0)),
+            ("loosely, no number", SHORT_VALUES, &|p, _, _| bb_read_scriptint_non_minimal(one, 1, p.cast(), 0)),
+            ("read_scriptbool", 0, &|p, v, c| bb_read_scriptbool(p, 0, v, c)),
+            ("next", 0, &|p, v, c| bb_next(p, 0, 0, PLAIN, v, c)),
+            ("next above the end", 8, &|p, v, c| bb_next(p, 0, 1, MINIMAL, v, c)),
+            ("body", 0, &|p, v, c| bb_body(p, 0, 0, PLAIN, v, c)),
+            ("advance", 0, &|p, v, c| bb_advance(&mut 0, 1, p, 0, MINIMAL, v, c)),
+            ("advance, no cursor", SHORT_VALUES, &|p, v, c| bb_advance(p.cast(), 0, one, 1, PLAIN, v, c)),
+            ("advance, no values", SHORT_VALUES, &|p, _, _| bb_advance(&mut 0, 1, one, 1, PLAIN, p.cast(), 0)),
+            ("positions, no values", SHORT_VALUES, &|p, _, _| bb_positions(one, 1, PLAIN, &mut 9, 1, p.cast(), 0)),
+            ("positions", 0, &|p, v, c| bb_positions(p, 0, PLAIN, p.cast(), 0, v, c)),
+            ("positions, no table", 7, &|p, v, c| bb_positions(one, 1, PLAIN, p.cast(), 0, v, c)),
+            ("is_p2sh", 0, &|p, v, c| bb_is_p2sh(p, 0, v, c)),
+            ("is_p2pkh", 0, &|p, v, c| bb_is_p2pkh(p, 0, v, c)),
+            ("is_witness_program", 0, &|p, v, c| bb_is_witness_program(p, 0, v, c)),
+            ("is_p2wpkh", 0, &|p, v, c| bb_is_p2wpkh(p, 0, v, c)),
+            ("is_p2wsh", 0, &|p, v, c| bb_is_p2wsh(p, 0, v, c)),
+            ("is_p2tr", 0, &|p, v, c| bb_is_p2tr(p, 0, v, c)),
+            ("is_p2a", 0, &|p, v, c| bb_is_p2a(p, 0, v, c)),
+            ("is_p2pk", 0, &|p, v, c| bb_is_p2pk(p, 0, v, c)),
+            ("is_multisig", 0, &|p, v, c| bb_is_multisig(p, 0, v, c)),
+            ("is_op_return", 0, &|p, v, c| bb_is_op_return(p, 0, v, c)),
+            ("is_push_only", 0, &|p, v, c| bb_is_push_only(p, 0, v, c)),
+            ("witness_version", 0, &|p, v, c| bb_witness_version(p, 0, v, c)),
+            ("p2pk_key", 0, &|p, v, c| bb_p2pk_key(p, 0, v, c)),
+            ("redeem_script", 0, &|p, v, c| bb_redeem_script(p, 0, v, c)),
+            ("p2pk_key_part", 0, &|p, v, c| bb_p2pk_key_part(p, 0, v, c)),
+            ("redeem_part", 0, &|p, v, c| bb_redeem_part(p, 0, v, c)),
+            ("p2wpkh_script_code", 0, &|p, v, c| bb_p2wpkh_script_code(p, 0, p, 0, v, c)),
+            ("p2wpkh_script_code, no room", 7, &|p, v, c| bb_p2wpkh_script_code(wp, 22, p, 0, v, c)),
+            ("kind", 0, &|p, v, c| bb_kind(p, 0, v, c)),
+            ("count_sigops", 0, &|p, v, c| bb_count_sigops(p, 0, v, c)),
+            ("count_sigops_legacy", 0, &|p, v, c| bb_count_sigops_legacy(p, 0, v, c)),
+            ("minimal_non_dust", 0, &|p, v, c| bb_minimal_non_dust(p, 0, v, c)),
+            ("minimal_non_dust_custom", 0, &|p, v, c| bb_minimal_non_dust_custom(p, 0, 9, v, c)),
+            ("asm_len", 0, &|p, v, c| bb_asm_len(p, 0, v, c)),
+            ("write_asm", 0, &|p, v, c| bb_write_asm(p, 0, p, 0, v, c)),
+            ("write_asm, no room", 7, &|p, v, c| bb_write_asm(one, 1, p, 0, v, c)),
+            ("write_name, no room", 7, &|p, v, c| bb_write_name(0, p, 0, v, c)),
+            ("write_scriptint of 0", 0, &|p, v, c| bb_write_scriptint(0, p, 0, v, c)),
+            ("write_scriptint, no room", 7, &|p, v, c| bb_write_scriptint(9, p, 0, v, c)),
+            ("builder_start", 0, &|p, v, c| bb_builder_start(p, 0, 0, v, c)),
+            ("builder_start of 1", 13, &|p, v, c| bb_builder_start(p, 0, 1, v, c)),
+            ("push_opcode, no room", 7, &|p, v, c| bb_builder_push_opcode(0, NOTHING, p, 0, 0x51, v, c)),
+            ("push_slice, no room", 7, &|p, v, c| bb_builder_push_slice(0, NOTHING, p, 0, body, 32, v, c)),
+            ("push_slice of nothing", 0, &|p, v, c| bb_builder_push_slice(0, NOTHING, &mut 9, 1, p, 0, v, c)),
+            ("push_slice of nothing, no room", 7, &|p, v, c| bb_builder_push_slice(0, NOTHING, p, 0, p, 0, v, c)),
+            ("push_int, no room", 7, &|p, v, c| bb_builder_push_int(0, NOTHING, p, 0, 1000, v, c)),
+            ("push_lock_time, no room", 7, &|p, v, c| bb_builder_push_lock_time(0, NOTHING, p, 0, 1000, v, c)),
+            ("push_sequence, no room", 7, &|p, v, c| bb_builder_push_sequence(0, NOTHING, p, 0, 1000, v, c)),
+            ("push_verify, no room", 7, &|p, v, c| bb_builder_push_verify(0, NOTHING, p, 0, v, c)),
+            ("builder_as_bytes", 0, &|p, v, c| bb_builder_as_bytes(0, NOTHING, p, 0, v, c)),
+            ("witness_program of nothing", 10, &|p, v, c| bb_witness_program(1, p, 0, p, 0, v, c)),
+            ("witness_program, no room", 7, &|p, v, c| bb_witness_program(1, body, 32, p, 0, v, c)),
+            ("inspect", 0, &|p, v, c| bb_inspect(p, 0, [0; 99].as_mut_ptr(), 99, v, c)),
+            ("inspect, no room", 7, &|p, v, c| bb_inspect(p, 0, p, 0, v, c)),
+            ("inspect of 2,801 bytes, no room", 7, &|p, v, c| bb_inspect(long.as_ptr(), long.len(), p, 0, v, c)),
+        ]
+    };
+    for (name, number, ask) in asked {
+        let mut place = [LENT];
+        let there = lend(6, &mut |v, c| ask(place.as_mut_ptr().cast(), v, c));
+        assert_eq!((there.0, place), (number, [LENT]), "{name}");
+        assert_eq!(lend(6, &mut |v, c| ask(null_mut(), v, c)), there, "{name} at NULL");
+        assert_eq!(lend(6, &mut |v, c| ask(NonNull::<u64>::dangling().as_ptr().cast(), v, c)), there, "{name}");
+    }
+}
+
 /// A number that is no refusal's becomes neither an answer nor a refusal.
 #[test]
 #[should_panic(expected = "gave 14, which is not a refusal's number")]
 fn an_unknown_number_ends_here() {
     crate::Refusal::given(14, 0);
+}
+
+/// Too few values are no refusal, and this package never lends too few.
+#[test]
+#[should_panic(expected = "was lent fewer values than it asks for")]
+fn too_few_values_end_here() {
+    crate::Refusal::given(SHORT_VALUES, 0);
 }
 
 #[test]

@@ -14,6 +14,9 @@ pub const SORT_PLAIN: u64 = 2;
 /// What a builder remembers where it remembers no opcode.
 pub const NOTHING: u32 = 256;
 
+/// What a call returns that is lent too short a slice for its answer. It is no refusal, and nothing is changed.
+pub const SHORT_VALUES: u32 = 255;
+
 extern "C" {
     pub fn bb_classify(code: u8, values: *mut u64, values_len: usize) -> u32;
     pub fn bb_decode_pushnum(code: u8, values: *mut u64, values_len: usize) -> u32;

@@ -2,7 +2,10 @@
 
 use core::fmt;
 
-/// Why there is no answer. A refused call has changed nothing that it was lent.
+use crate::ffi;
+
+/// Why there is no answer. A refused call leaves every slice that it was lent as it was, and a builder too. A cursor that is moved in place
+/// ([`Cursor::advance`](crate::Cursor::advance)) stands at the script's end after a refused push.
 #[derive(Clone, Copy, Debug, PartialEq, Eq, Hash)]
 pub enum Refusal {
     /// 1: a script, a builder's used length, `read_scriptbool`'s bytes or a built script exceeds 4,194,304 bytes.
@@ -79,9 +82,18 @@ impl Refusal {
             11 => Refusal::ProgramLengthV0,
             12 => Refusal::BadVersion,
             13 => Refusal::BadBuilder,
+            ffi::SHORT_VALUES => too_few(),
             other => unknown("a refusal's number", other.into()),
         }
     }
+}
+
+/// The library says that it was lent too few values. That is no refusal. This package lends as many as the header asks for, so none of its
+/// callers can bring it about.
+#[cold]
+#[inline(never)]
+fn too_few() -> ! {
+    panic!("libboundary.a was lent fewer values than it asks for: is it the library that this package was written for?")
 }
 
 /// A number that the library's contracts shut out. It ends here: passed on, it would look like an answer.

@@ -1,7 +1,7 @@
 //! Our answers: the functions of the static library, lent slices with guards around them, and the safe functions of package brinebutton
 //! brought to the same form. After a call every entry that was lent is looked at, and the guards.
 
-use brinebutton::{Found, Refusal};
+use brinebutton::{ffi, Found, Refusal};
 
 use crate::entries::{Entry, ENTRIES};
 
@@ -14,7 +14,7 @@ pub enum Via {
 
 pub const VIAS: [Via; 2] = [Via::Raw, Via::Safe];
 
-/// An answer in the header's terms: a refusal's number or 0, and the values that the answer names.
+/// An answer in the header's terms: 0, a refusal's number or that of too few values, and the values that the answer names.
 #[derive(Clone, Copy, PartialEq, Eq)]
 pub struct Said {
     pub number: u32,
@@ -35,6 +35,11 @@ impl Said {
 
     pub fn no(number: u32) -> Said {
         Said::new(number, &[])
+    }
+
+    /// What a call says that is lent too short a slice for its answer.
+    pub fn short_values() -> Said {
+        Said::no(ffi::SHORT_VALUES)
     }
 
     pub fn values(&self) -> &[u64] {
@@ -110,6 +115,7 @@ impl std::fmt::Debug for Said {
     fn fmt(&self, f: &mut std::fmt::Formatter) -> std::fmt::Result {
         match self.number {
             0 => write!(f, "values {:?}", self.values()),
+            ffi::SHORT_VALUES => f.write_str("too few values"),
             number => write!(f, "refusal {number}, values {:?}", self.values()),
         }
     }
@@ -388,7 +394,7 @@ impl Ours {
     ) {
         self.last = (entry, via);
         for count in self.value_counts(via, needed) {
-            let want = if count < needed { Said::no(7) } else { want };
+            let want = if count < needed { Said::short_values() } else { want };
             let mut cells = CELLS;
             let (mut number, enough) = call(&mut cells[FRONT..FRONT + count]);
             if let Some((target, bit)) = self.count(entry, via) {

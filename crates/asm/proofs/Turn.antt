@@ -36,7 +36,6 @@ module _ (s : List ℕ) where
   unfolding textFor
   inside n at h = rw (lt-leb (length s) at h)
 
-  -- turns enough are as good as more
   enough : (n k at : ℕ) → length s - at ≤ n → length s - at ≤ k → textFor n s at ≡ textFor k s at
   unfolding textFor
   enough zero k at a b = sym (past k at (omega arith))
@@ -49,6 +48,11 @@ module _ (s : List ℕ) where
       (λ (h : length s ≤ at). past (suc n) at h ∙ sym (past (suc k) at h))
       (lt-or-le at (length s))
 
+  -- As many turns as bytes are left at a place are enough: more change nothing.
+  pub text-turns : (turns at : ℕ) → length s - at ≤ turns → textFor turns s at ≡ textFrom s at
+  unfolding textFrom
+  text-turns turns at h = enough turns (length s - at) at h (omega arith)
+
   pub ends : (at : ℕ) → length s ≤ at → textFrom s at ≡ []
   unfolding textFrom
   ends at h = past (length s - at) at h
@@ -59,7 +63,7 @@ module _ (s : List ℕ) where
       let e : length s - at ≡ suc (length s - at - 1) = omega arith in
       let g = goes-on s at h in
       ap (λ (n : ℕ). textFor n s at) e ∙ inside (length s - at - 1) at h
-      ∙ ap (λ (l : List ℕ). textAt s at ++ l) (enough (length s - at - 1) (length s - nextPlace s at) (nextPlace s at) (omega arith) (omega arith))
+      ∙ ap (λ (l : List ℕ). textAt s at ++ l) (text-turns (length s - at - 1) (nextPlace s at) (omega arith))
 
   -- what follows the name of the instruction at a place
   abbrev pub behind : ℕ → List ℕ

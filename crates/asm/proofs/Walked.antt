@@ -12,9 +12,9 @@ use Rattle.laws.specs.Said.{Said, answers, refuses}
 use Rattle.opcodes.specs.Opcode.{PushForm, direct, pushdata1, pushdata2, pushdata4, lengthBytes, sortOf, lengthBytesAfter}
 use Rattle.opcodes.specs.Opcode as sort
 use Rattle.script.specs.Script.{readLE}
-use Rattle.script.specs.Walk.{Walked, end, opcode, push, walkSays, nextAt}
+use Rattle.script.specs.Walk.{Item, Walked, end, found, opcode, push, walkSays, nextAt}
 use Rattle.script.specs.Run.{item, walkFrom, items, ending}
-use Rattle.script.specs.Calls.{given}
+use Rattle.script.specs.Calls.{instructionOf}
 use Rattle.script.specs.Steps.{stated}
 use Rattle.script.specs.Instruction.{Instruction, opcodeOf}
 use Rattle.script.specs.Instruction as instruction
@@ -81,7 +81,7 @@ module _ (s : List ℕ) where
   module _ (at : ℕ) (rec : (q : ℕ) → at < q → q ≤ length s → ending (walkFrom false s q) ≡ answers end → Texts q)
       (whole : ending (walkFrom false s at) ≡ answers end) where
     -- the walk hands out an instruction that ends at q
-    more : (i : Instruction) (w : Walked) {q place : ℕ} → walkFrom false s at ≡ item w (walkFrom false s q) → given s (answers w) ≡ i ∷ []
+    more : (i : Instruction) (w : Item) {q place : ℕ} → walkFrom false s at ≡ item w (walkFrom false s q) → instructionOf s w ≡ i
         → Moves s at q place → textFrom s at ≡ spaceAt at ++ (instructionText i ++ textFrom s q) → Texts at
     unfolding Texts
     more i w {q} t g m e =
@@ -94,14 +94,14 @@ module _ (s : List ℕ) where
     by-answer (answers end) w =
         let g = good-answer false s at (answers end) w in
         ends s at (omega (arith, g .0)) ∙ rw (turn false s at (sym w) refl)
-    by-answer (answers (opcode place code)) w =
-        let g = good-answer false s at (answers (opcode place code)) w in
+    by-answer (answers (found (opcode place code))) w =
+        let g = good-answer false s at (answers (found (opcode place code))) w in
         let b : 78 < getD s at 0 = omega (arith, g .is, g .above) in
         let z : at + 1 + 0 + 0 ≡ at + 1 = omega arith in
         more (instruction.opcode code) (opcode place code) {q = at + 1} (turn false s at (sym w) (rw w)) refl (moves false s at (sym w) (rw w))
         (rw (g .is) (rw z at (step at 0 0 (sym (no-length (getD s at 0) b)) (sym (no-data at b)) (omega (arith, g .fits)))))
-    by-answer (answers (push place form body len)) w =
-        let g = good-answer false s at (answers (push place form body len)) w in
+    by-answer (answers (found (push place form body len))) w =
+        let g = good-answer false s at (answers (found (push place form body len))) w in
         let k : ℕ = lengthBytes form in
         let o = push-code (getD s at 0) form (g .form-is) in
         let n : length (take len (drop body s)) ≡ len = length-take-le len (drop body s) (simp length-drop (omega (arith, g .fits))) in

@@ -1,6 +1,6 @@
 // The builder: its state goes in as two numbers and comes back in the values.
 use builder::Builder;
-use hand::NO_ROOM;
+use hand::SHORT_VALUES;
 use held::STATE_VALUES;
 use held::builder_of;
 use held::built;
@@ -46,7 +46,7 @@ pub extern "C" fn bb_builder_push_opcode(
     ensures { λ r. ⌜ (handed r (now (values .exit)) ≡ builds (calls (pushOpcode code) used (rememberedOf remembered) (now (buffer .entry))) (now (values .entry))) × (now (buffer .exit) ≡ unlessShort 3 (length (now (values .entry))) ((calls (pushOpcode code) used (rememberedOf remembered) (now (buffer .entry))) .buffer) (now (buffer .entry))) ⌝ }
 {
     if values.len() < STATE_VALUES {
-        return NO_ROOM;
+        return SHORT_VALUES;
     }
     built(
         builder_of(used, remembered).push_opcode(buffer, code),
@@ -66,7 +66,7 @@ pub extern "C" fn bb_builder_push_slice(
     ensures { λ r. ⌜ (handed r (now (values .exit)) ≡ builds (calls (pushSlice (now (body .entry))) used (rememberedOf remembered) (now (buffer .entry))) (now (values .entry))) × (now (buffer .exit) ≡ unlessShort 3 (length (now (values .entry))) ((calls (pushSlice (now (body .entry))) used (rememberedOf remembered) (now (buffer .entry))) .buffer) (now (buffer .entry))) ⌝ }
 {
     if values.len() < STATE_VALUES {
-        return NO_ROOM;
+        return SHORT_VALUES;
     }
     built(
         builder_of(used, remembered).push_slice(buffer, body),
@@ -86,7 +86,7 @@ pub extern "C" fn bb_builder_push_int(
     ensures { λ r. ⌜ (handed r (now (values .exit)) ≡ builds (calls (pushInt n) used (rememberedOf remembered) (now (buffer .entry))) (now (values .entry))) × (now (buffer .exit) ≡ unlessShort 3 (length (now (values .entry))) ((calls (pushInt n) used (rememberedOf remembered) (now (buffer .entry))) .buffer) (now (buffer .entry))) ⌝ }
 {
     if values.len() < STATE_VALUES {
-        return NO_ROOM;
+        return SHORT_VALUES;
     }
     built(builder_of(used, remembered).push_int(buffer, n), values)
 }
@@ -103,7 +103,7 @@ pub extern "C" fn bb_builder_push_lock_time(
     ensures { λ r. ⌜ (handed r (now (values .exit)) ≡ builds (calls (pushInt (pos locktime)) used (rememberedOf remembered) (now (buffer .entry))) (now (values .entry))) × (now (buffer .exit) ≡ unlessShort 3 (length (now (values .entry))) ((calls (pushInt (pos locktime)) used (rememberedOf remembered) (now (buffer .entry))) .buffer) (now (buffer .entry))) ⌝ }
 {
     if values.len() < STATE_VALUES {
-        return NO_ROOM;
+        return SHORT_VALUES;
     }
     built(
         builder_of(used, remembered).push_lock_time(buffer, locktime),
@@ -123,7 +123,7 @@ pub extern "C" fn bb_builder_push_sequence(
     ensures { λ r. ⌜ (handed r (now (values .exit)) ≡ builds (calls (pushInt (pos sequence)) used (rememberedOf remembered) (now (buffer .entry))) (now (values .entry))) × (now (buffer .exit) ≡ unlessShort 3 (length (now (values .entry))) ((calls (pushInt (pos sequence)) used (rememberedOf remembered) (now (buffer .entry))) .buffer) (now (buffer .entry))) ⌝ }
 {
     if values.len() < STATE_VALUES {
-        return NO_ROOM;
+        return SHORT_VALUES;
     }
     built(
         builder_of(used, remembered).push_sequence(buffer, sequence),
@@ -142,7 +142,7 @@ pub extern "C" fn bb_builder_push_verify(
     ensures { λ r. ⌜ (handed r (now (values .exit)) ≡ builds (calls pushVerify used (rememberedOf remembered) (now (buffer .entry))) (now (values .entry))) × (now (buffer .exit) ≡ unlessShort 3 (length (now (values .entry))) ((calls pushVerify used (rememberedOf remembered) (now (buffer .entry))) .buffer) (now (buffer .entry))) ⌝ }
 {
     if values.len() < STATE_VALUES {
-        return NO_ROOM;
+        return SHORT_VALUES;
     }
     built(builder_of(used, remembered).push_verify(buffer), values)
 }

@@ -4,7 +4,7 @@ ghost use mathlib.Core.Path.{_≡_};
 ghost use mathlib.Core.Bool.{true, false};
 ghost use lib.ListN.{length};
 ghost use Rattle.laws.specs.Said.{answers};
-ghost use Rattle.opcodes.specs.Opcode.{sortOf, numberOf, verifyOf};
+ghost use Rattle.opcodes.specs.Opcode.{sortOf, pushnumOf, verifyOf};
 ghost use Rattle.pool.specs.Names.{nameOf};
 ghost use Rattle.numbers.specs.ScriptNum.{scriptNum, nDefaultMaxNumSize};
 ghost use Rattle.numbers.specs.Answer.{lenSays, boolSays};
@@ -21,7 +21,7 @@ pub extern "C" fn bb_classify(code: u8, values: &mut [u64]) -> u32
 // The number that a number opcode carries.
 #[no_mangle]
 pub extern "C" fn bb_decode_pushnum(code: u8, values: &mut [u64]) -> u32
-    ensures { λ r. ⌜ handed r (now (values .exit)) ≡ says 2 (maybe one) (answers (numberOf code)) (now (values .entry)) ⌝ }
+    ensures { λ r. ⌜ handed r (now (values .exit)) ≡ says 2 (maybe one) (answers (pushnumOf code)) (now (values .entry)) ⌝ }
 {
     hand::code(opcodes::decode_pushnum(code), values)
 }

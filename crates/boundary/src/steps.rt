@@ -1,5 +1,5 @@
 // The walk.
-use hand::NO_ROOM;
+use hand::SHORT_VALUES;
 use refusal::Counted;
 use walk::Cursor;
 ghost use mathlib.Core.Path.{_≡_};
@@ -60,7 +60,7 @@ pub extern "C" fn bb_positions(
     ensures { λ r. ⌜ (handed r (now (values .exit)) ≡ says 1 one (positionsSay (minimalOf mode) (now (script .entry)) (length (now (table .entry)))) (now (values .entry))) × (now (table .exit) ≡ unlessShort 1 (length (now (values .entry))) (after (positionsSay (minimalOf mode) (now (script .entry)) (length (now (table .entry)))) (placesOf (minimalOf mode) (now (script .entry))) (now (table .entry))) (now (table .entry))) ⌝ }
 {
     if values.len() < 1 {
-        return NO_ROOM;
+        return SHORT_VALUES;
     }
     hand::count(
         places::positions(script, step::mode_of(mode), table),

@@ -16,7 +16,7 @@ use Rattle.refusal.specs.Answer.{saidCount}
 use Rattle.refusal.specs.declared.Refusal.{Refusal}
 use Rattle.refusal.specs.declared.Counted.{Counted}
 use Rattle.refusal.specs.declared.Counted.the-variants as counted
-use Rattle.building.specs.Builder.{Call, appends, verifyForm, pushVerify, lastOpcode, takesOver}
+use Rattle.building.specs.Builder.{Call, appends, verifyForm, pushVerify, lastIfOpcode, takesOver}
 use Rattle.building.specs.Lent.{notLast, builderSays, builtSays, Outcome, calls}
 use Rattle.building.proofs.Passed.{neither, good-used}
 use Rattle.layout.specs.Laid.{laidSays}
@@ -107,9 +107,9 @@ module _ (used : ℕ) (remembered : Option ℕ) (buffer : List ℕ) where
 
 -- ---- bytes that are taken over
 module _ (used : ℕ) (buffer : List ℕ) (good : builderSays used none buffer ≡ answers tt) where
-  pub taken-over : record { said = answers tt; used = used; remembered = lastOpcode (take used buffer); buffer = buffer } ≡ calls takesOver used none buffer
+  pub taken-over : record { said = answers tt; used = used; remembered = lastIfOpcode (take used buffer); buffer = buffer } ≡ calls takesOver used none buffer
   unfolding calls
   taken-over =
       let n = used-length used none buffer good in
-      ap (λ (x : List ℕ). record { said = answers tt; used = used; remembered = lastOpcode (take used buffer); buffer = x }) (sym (take-append-drop used buffer))
+      ap (λ (x : List ℕ). record { said = answers tt; used = used; remembered = lastIfOpcode (take used buffer); buffer = x }) (sym (take-append-drop used buffer))
       ∙ rw (good, n, still-fits used none buffer good, n)

@@ -9,7 +9,7 @@ use Rattle.script.specs.Script.{readLE, assign, sized, operand, getScriptOp}
 use Rattle.script.specs.Walk.{walkSays, nextAt, notMinimal}
 use Rattle.script.specs.Run.{walkFor, walkFrom}
 use Rattle.script.specs.Instruction.{writeLE, encode}
-use Rattle.building.specs.Builder.{Call, pushOpcode, pushSlice, pushInt, pushVerify, lastOpcode, takesOver}
+use Rattle.building.specs.Builder.{Call, pushOpcode, pushSlice, pushInt, pushVerify, lastIfOpcode, takesOver}
 use Rattle.building.specs.Lent.{Outcome, builderSays, builtSays, calls}
 
 -- a call after another
@@ -28,5 +28,5 @@ pub marked :
     (calls (pushInt (pos 5)) 0 none (0 ∷ 0 ∷ []) ≡ done 1 (some 0x55) (0x55 ∷ 0 ∷ [])) ×
     (calls takesOver 1 none (0x87 ∷ []) ≡ done 1 (some 0x87) (0x87 ∷ [])) ×
     (calls takesOver 1 none (0x00 ∷ []) ≡ done 1 none (0x00 ∷ []))
-unfolding calls builderSays builtSays pushSlice pushInt pushVerify lastOpcode walkFrom walkFor walkSays nextAt notMinimal getScriptOp operand sized assign readLE encode writeLE
+unfolding calls builderSays builtSays pushSlice pushInt pushVerify lastIfOpcode walkFrom walkFor walkSays nextAt notMinimal getScriptOp operand sized assign readLE encode writeLE
 marked = (refl, refl, refl, refl, refl, refl, refl, refl)

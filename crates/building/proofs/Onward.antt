@@ -15,23 +15,16 @@ use lib.Seq.{getD-at}
 use Rattle.laws.specs.Said.{Said, answers, refuses, unless}
 use Rattle.laws.proofs.Test.{by-test, lt-or-le}
 use Rattle.refusal.specs.Refusal.{limit}
-use Rattle.script.specs.Walk.{Walked, end, opcode, push, walkSays, moved, nextAt}
+use Rattle.script.specs.Walk.{Walked, end, found, opcode, push, walkSays, moved, nextAt}
 use Rattle.script.specs.Run.{Run, continue, walkFor, walkFrom, fold}
 use Rattle.script.proofs.Good.{Good, good}
 use Rattle.numbers.specs.Answer.{isLeast}
 use Rattle.numbers.specs.ScriptNum.{serialize}
-use Rattle.building.specs.Builder.{State, Call, pushOpcode, pushSlice, intOpcode, pushNumber, pushInt, verifyForm, pushVerified, pushVerify, opcodeIn, unlessRefused, lastOpcode, takesOver}
-use Rattle.building.specs.Lent.{notLast, builderSays, builtSays, within, leaves, calls}
+use Rattle.building.specs.Builder.{State, Call, pushOpcode, pushSlice, intOpcode, pushNumber, pushInt, verifyForm, pushVerified, pushVerify, opcodeIn, unlessRefused, lastIfOpcode, takesOver}
+use Rattle.building.specs.Lent.{notLast, builderSays, builtSays, within, leaves, calls, EndsIn, Ends}
 use Rattle.building.proofs.Passed.{passes}
 
 -- ---- what a call remembers is its last byte
-
-abbrev EndsIn : Said State → Type 0
-EndsIn (answers st) = notLast (st .remembered) (length (st .bytes)) (st .bytes) ≡ false
-EndsIn (refuses number values) = Unit {0}
-
-abbrev pub Ends : Call → Type 0
-Ends call = (st : State) → EndsIn (call st)
 
 pub opcode-ends : (code : ℕ) → Ends (pushOpcode code)
 opcode-ends code st =
@@ -74,10 +67,10 @@ module _ (s : List ℕ) where
       → ((q : ℕ) (l : Option ℕ) → length s - q < n → LastAt s q l → LastAt s (length s) (final l (walkFor n false s q)))
       → LastAt s (length s) (final last (continue a (walkFor n false s (moved a s p))))
   step n p last (answers end) g h l f = rw (g .0) l
-  step n p last (answers (opcode place code)) g h l f =
+  step n p last (answers (found (opcode place code))) g h l f =
       let e : p + 1 - 1 ≡ p = omega arith in
       f (p + 1) (some code) (omega (arith, g .fits)) (omega arith, rw e (sym (g .is)))
-  step n p last (answers (push place form body len)) g h l f = f _ none (omega (arith, g .fits, g .starts)) tt
+  step n p last (answers (found (push place form body len))) g h l f = f _ none (omega (arith, g .fits, g .starts)) tt
   step n p last (refuses number values) g h l f = tt
 
   last-at : (n p : ℕ) (last : Option ℕ) → length s - p < n → LastAt s p last → LastAt s (length s) (final last (walkFor n false s p))
@@ -85,12 +78,12 @@ module _ (s : List ℕ) where
   last-at zero p last h l = absurd (omega arith)
   last-at (suc n) p last h l = step n p last (walkSays false s p) (good false s p) h l (last-at n)
 
-last-byte : (s : List ℕ) → LastAt s (length s) (lastOpcode s)
-unfolding lastOpcode walkFrom
+last-byte : (s : List ℕ) → LastAt s (length s) (lastIfOpcode s)
+unfolding lastIfOpcode walkFrom
 last-byte s = last-at s (suc (length s - 0)) 0 none (omega arith) tt
 
 pub start-ends : Ends takesOver
-start-ends st = go (lastOpcode (st .bytes)) (last-byte (st .bytes))
+start-ends st = go (lastIfOpcode (st .bytes)) (last-byte (st .bytes))
   where
     go : (o : Option ℕ) → LastAt (st .bytes) (length (st .bytes)) o → notLast o (length (st .bytes)) (st .bytes) ≡ false
     go none l = refl

@@ -8,7 +8,7 @@ use lib.Dec.{leb}
 use lib.ListN.{length}
 use Rattle.laws.proofs.Test.{by-test}
 use Rattle.opcodes.specs.Opcode.{PushForm, direct, pushdata1, pushdata2, pushdata4, lengthBytes}
-use Rattle.script.specs.Instruction.{push, most, encode}
+use Rattle.script.specs.Instruction.{push, mostStated, encode}
 use Rattle.script.proofs.Encoding.{encode-length}
 use Rattle.building.specs.Builder.{pushForm}
 
@@ -21,10 +21,10 @@ by-form len P d p q r =
     by-test P (leb len 0xffff) (λ e. q (leb-false len 0xff e₁) (leb-true len 0xffff e)) λ e₂. r (leb-false len 0xffff e₂)
 
 -- The chosen form can state every length that some form can.
-pub form-states : (len : ℕ) → len ≤ 0xffff_ffff → len ≤ most (pushForm len)
-form-states len h = by-form len (λ form. len ≤ most form) (λ a. a) (λ a b. b) (λ a b. b) (λ a. h)
+pub form-states : (len : ℕ) → len ≤ 0xffff_ffff → len ≤ mostStated (pushForm len)
+form-states len h = by-form len (λ form. len ≤ mostStated form) (λ a. a) (λ a b. b) (λ a b. b) (λ a. h)
 
-few-bytes : (len : ℕ) (form : PushForm) → len ≤ most form → lengthBytes (pushForm len) ≤ lengthBytes form
+few-bytes : (len : ℕ) (form : PushForm) → len ≤ mostStated form → lengthBytes (pushForm len) ≤ lengthBytes form
 few-bytes len direct h =
     by-form len (λ f. lengthBytes f ≤ 0) (λ a. omega arith) (λ a b. omega arith) (λ a b. omega arith) (λ a. omega arith)
 few-bytes len pushdata1 h =
@@ -35,7 +35,7 @@ few-bytes len pushdata4 h =
     by-form len (λ f. lengthBytes f ≤ 4) (λ a. omega arith) (λ a b. omega arith) (λ a b. omega arith) (λ a. omega arith)
 
 -- No form that can state the body's length has a shorter encoding than the chosen one.
-pub shortest-form : (form : PushForm) (body : List ℕ) → length body ≤ most form
+pub shortest-form : (form : PushForm) (body : List ℕ) → length body ≤ mostStated form
     → length (encode (push (pushForm (length body)) body)) ≤ length (encode (push form body))
 shortest-form form body h =
     omega (

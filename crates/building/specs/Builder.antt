@@ -11,7 +11,7 @@ use Rattle.laws.specs.Said.{Said, answers, refuses}
 use Rattle.opcodes.specs.Core.{OP-0, OP-1NEGATE, OP-1, OP-VERIFY}
 use Rattle.opcodes.specs.Opcode.{PushForm, direct, pushdata1, pushdata2, pushdata4, verifyOf}
 use Rattle.script.specs.Instruction.{encode, push}
-use Rattle.script.specs.Walk.{Walked, end, opcode}
+use Rattle.script.specs.Walk.{Item, Walked, opcode}
 use Rattle.script.specs.Walk as walk
 use Rattle.script.specs.Run.{walkFrom, fold}
 use Rattle.numbers.specs.ScriptNum.{serialize}
@@ -75,8 +75,7 @@ unfoldable pub pushVerify : Call
 pushVerify st = pushVerified (verifyForm (st .remembered)) st
 
 -- the opcode of an instruction that is one
-abbrev pub opcodeIn : Walked → Option ℕ
-opcodeIn end = none
+abbrev pub opcodeIn : Item → Option ℕ
 opcodeIn (opcode place code) = some code
 opcodeIn (walk.push place form body len) = none
 
@@ -86,9 +85,9 @@ unlessRefused (last, answers w) = last
 unlessRefused (last, refuses number values) = none
 
 -- 'the plain walk's last instruction if an opcode and nothing was refused'
-unfoldable pub lastOpcode : List ℕ → Option ℕ
-lastOpcode s = unlessRefused (fold (λ last w. opcodeIn w) none (walkFrom false s 0))
+unfoldable pub lastIfOpcode : List ℕ → Option ℕ
+lastIfOpcode s = unlessRefused (fold (λ last i. opcodeIn i) none (walkFrom false s 0))
 
 -- 'Bytes taken over as a start remember' that
 abbrev pub takesOver : Call
-takesOver st = answers (record { bytes = st .bytes; remembered = lastOpcode (st .bytes) })
+takesOver st = answers (record { bytes = st .bytes; remembered = lastIfOpcode (st .bytes) })

@@ -1,4 +1,5 @@
 -- A builder call over a lent buffer: the refusals in document 01's order, and what the call leaves. Assumes nothing.
+use mathlib.Core.Path.{_≡_}
 use mathlib.Core.Bool.{Bool, false, not, _||_}
 use mathlib.Core.List.{List, [], _∷_, _++_}
 use mathlib.Core.Option.{Option, none, some}
@@ -68,3 +69,12 @@ shownIf (refuses number values) used = 0
 -- as_bytes
 unfoldable pub shown : ℕ → Option ℕ → List ℕ → ℕ
 shown used remembered buffer = shownIf (builderSays used remembered buffer) used
+
+-- what a call remembers is the last byte that it leaves, where it refuses nothing itself
+abbrev pub EndsIn : Said State → Type 0
+EndsIn (answers st) = notLast (st .remembered) (length (st .bytes)) (st .bytes) ≡ false
+EndsIn (refuses number values) = Unit {0}
+
+-- .. whatever it is given
+abbrev pub Ends : Call → Type 0
+Ends call = (st : State) → EndsIn (call st)

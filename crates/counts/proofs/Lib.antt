@@ -1,4 +1,5 @@
 pub mod Weight
 pub mod Turns
+pub mod Enough
 pub mod Settled
 pub mod Examples

@@ -14,7 +14,7 @@ use Rattle.laws.proofs.Test.{lt-or-le}
 use Rattle.refusal.specs.Refusal.{limit}
 use Rattle.opcodes.specs.Opcode.{PushForm, direct, pushdata1, pushdata2, pushdata4}
 use Rattle.script.specs.Script.{ScriptOp, fails, reads, assign, getScriptOp}
-use Rattle.script.specs.Walk.{opcode, push, judged, walkSays, nextAt}
+use Rattle.script.specs.Walk.{found, opcode, push, judged, walkSays, nextAt}
 use Rattle.script.proofs.Good.{OpcodeAt, PushAt, good-answer}
 use Rattle.script.proofs.Minimal.{IsOf}
 use Rattle.script.proofs.Step.{inside, push-code, opcode-read, push-read}
@@ -95,14 +95,14 @@ push-none acc last s p {form = form} g =
 -- ---- one turn of a loop over the plain walk, by what `Cursor::next` found
 
 module _ (acc : Bool) (s : List ℕ) {p n last q : ℕ} (k : Counting acc s p n last) (m : q ≡ nextAt false s p) where
-  pub after-opcode : {place code : ℕ} → walkSays false s p ≡ answers (opcode place code) → Counting acc s q (n + sigOps acc last code) code
+  pub after-opcode : {place code : ℕ} → walkSays false s p ≡ answers (found (opcode place code)) → Counting acc s q (n + sigOps acc last code) code
   unfolding nextAt
   after-opcode e =
       let g = good-answer false s p _ e in
       let j : q ≡ p + 1 = m ∙ rw e in
       rw j (goes-on acc s k (omega (arith, g .fits)) (omega arith) (opcode-reads s p g))
 
-  pub after-push : {place : ℕ} {form : PushForm} {body len : ℕ} → walkSays false s p ≡ answers (push place form body len) → Counting acc s q n (getD s p 0)
+  pub after-push : {place : ℕ} {form : PushForm} {body len : ℕ} → walkSays false s p ≡ answers (found (push place form body len)) → Counting acc s q n (getD s p 0)
   unfolding nextAt
   after-push {form = form} {body} {len} e =
       let g = good-answer false s p _ e in

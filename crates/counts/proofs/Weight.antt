@@ -8,7 +8,7 @@ use native.Mathlib.Omega.{arith}
 use borrow.Author.Tests.{ltb-true, ltb-false, le-leb, lt-leb, eq-eqb, ne-eqb}
 use lib.Dec.{ltb, eqb}
 use Rattle.laws.proofs.Test.{by-test, lt-or-le}
-use Rattle.opcodes.specs.Opcode.{numberOf}
+use Rattle.opcodes.specs.Opcode.{pushnumOf}
 use Rattle.counts.specs.Count.{multisigOps, sigOps}
 
 -- after a number opcode its number, else 20
@@ -16,7 +16,7 @@ abbrev Keys : ℕ → Option ℕ → Type 0
 Keys last none = multisigOps true last ≡ 20
 Keys last (some n) = (n ≡ multisigOps true last) × (n ≤ 20)
 
-keys : (last : ℕ) → Keys last (numberOf last)
+keys : (last : ℕ) → Keys last (pushnumOf last)
 unfolding multisigOps
 keys last =
     by-test (Keys last) (ltb last 0x51) (λ e. let h = ltb-true last 0x51 e in rw (lt-leb 0x51 last h)) λ e.
@@ -25,7 +25,7 @@ keys last =
     (λ f. let h = ltb-true last 0x61 f in (rw (le-leb 0x51 last g, le-leb last 0x60 (omega arith), ne-eqb last 0 (omega arith)), omega arith))
     (λ f. let h = ltb-false last 0x61 f in rw (le-leb 0x51 last g, lt-leb last 0x60 (omega arith)))
 
-pub keys-of : (last : ℕ) {o : Option ℕ} → o ≡ numberOf last → Keys last o
+pub keys-of : (last : ℕ) {o : Option ℕ} → o ≡ pushnumOf last → Keys last o
 keys-of last e = rw e (keys last)
 
 -- two neighbours

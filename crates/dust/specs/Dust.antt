@@ -9,8 +9,8 @@ use Rattle.refusal.specs.Refusal.{withinLimit}
 use Rattle.fixed.specs.Fixed.{isWitnessProgram, isOpReturn}
 
 -- 2^64 - 1
-abbrev pub most : ℕ
-most = 18446744073709551615
+abbrev pub mostAmount : ℕ
+mostAmount = 18446744073709551615
 
 -- 'c is 1 below 253, 3 up to 65,535, else 5': GetSizeOfCompactSize of Core's serialize.h, for lengths within the limit
 unfoldable pub getSizeOfCompactSize : ℕ → ℕ
@@ -25,7 +25,7 @@ dustSize s =
 
 -- 'rate times size, divided by 1000, rounded down'; refusal 9 where the product exceeds 2^64 - 1
 unfoldable pub feeSays : (rate size : ℕ) → Said ℕ
-feeSays rate size = if ltb most (rate * size) then refuses 9 [] else answers (rate * size / 1000)
+feeSays rate size = if ltb mostAmount (rate * size) then refuses 9 [] else answers (rate * size / 1000)
 
 -- 'The default rate is 3000', which no length brings over 2^64 - 1
 abbrev pub dustOf : List ℕ → ℕ
@@ -37,4 +37,4 @@ dustSays s = withinLimit s (answers (dustOf s))
 
 -- 'the custom call takes satoshi per 1000 weight units, times 4'; refusal 9 where that exceeds 2^64 - 1
 unfoldable pub customSays : List ℕ → (rate : ℕ) → Said ℕ
-customSays s rate = withinLimit s (if ltb most (rate * 4) then refuses 9 [] else feeSays (rate * 4) (dustSize s))
+customSays s rate = withinLimit s (if ltb mostAmount (rate * 4) then refuses 9 [] else feeSays (rate * 4) (dustSize s))

@@ -11,12 +11,12 @@ use lib.Dec.{leb, eqb}
 use lib.ListN.{length, getD}
 use Rattle.laws.specs.Choice.{if_then_else_}
 use Rattle.laws.proofs.Test.{lt-or-le}
-use Rattle.opcodes.specs.Opcode.{numberOf}
+use Rattle.opcodes.specs.Opcode.{pushnumOf}
 use Rattle.fixed.specs.Fixed.{versionOf, witnessVersion, isProgramOf, isWitnessProgram}
 use Rattle.laws.proofs.Test.{and-left}
 
 -- a number opcode, as BIP 141 asks of the first byte
-pub number-version : (b : ℕ) → (b ≡ 0 → ⊥) → numberOf b ≡ (if (eqb b 0 || (leb 0x51 b && leb b 0x60)) then some (if eqb b 0 then 0 else b - (0x51 - 1)) else none)
+pub number-version : (b : ℕ) → (b ≡ 0 → ⊥) → pushnumOf b ≡ (if (eqb b 0 || (leb 0x51 b && leb b 0x60)) then some (if eqb b 0 then 0 else b - (0x51 - 1)) else none)
 number-version b z =
     rw (ne-eqb b 0 z)
     (⊎-elim (λ l. simp (lt-ltb b 0x51 l, lt-leb 0x51 b l)) (λ l.

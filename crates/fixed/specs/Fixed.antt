@@ -71,9 +71,9 @@ unfoldable pub isOpReturn : List ℕ → Bool
 isOpReturn s = leb 1 (length s) && eqb (getD s 0 0) OP-RETURN
 
 -- 'p2wpkh_script_code': with hash h, 76 a9 14 h 88 ac
-abbrev pub codeOf : List ℕ → List ℕ
-codeOf h = OP-DUP ∷ OP-HASH160 ∷ 0x14 ∷ (h ++ (OP-EQUALVERIFY ∷ OP-CHECKSIG ∷ []))
+abbrev pub codeFor : List ℕ → List ℕ
+codeFor h = OP-DUP ∷ OP-HASH160 ∷ 0x14 ∷ (h ++ (OP-EQUALVERIFY ∷ OP-CHECKSIG ∷ []))
 
 -- the program of a P2WPKH script is its hash; for all else nothing is written
 unfoldable pub scriptCode : List ℕ → List ℕ
-scriptCode s = if isPayToWitnessPubkeyHash s then codeOf (drop 2 s) else []
+scriptCode s = if isPayToWitnessPubkeyHash s then codeFor (drop 2 s) else []

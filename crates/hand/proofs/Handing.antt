@@ -13,14 +13,15 @@ use Rattle.refusal.specs.Refusal.{saidRefusal}
 use Rattle.refusal.specs.Refusal as refusals
 use Rattle.refusal.specs.declared.Refusal.{Refusal}
 use Rattle.refusal.specs.declared.Refusal.the-variants.{TooLong, NonMinimal, EarlyEnd, NumberTooLong, NumberNotMinimal, NumberOutOfRange, NoRoom, BadCursor, FeeTooLarge, ProgramLength, ProgramLengthV0, BadVersion, BadBuilder}
-use Rattle.script.specs.Walk.{Walked, end, opcode, push}
+use Rattle.script.specs.Walk.{Walked, end, found, opcode, push}
 use Rattle.building.specs.Builder.{Call}
 use Rattle.building.specs.Lent.{Outcome, calls}
 use Rattle.hand.specs.Handed.{
   Handed,
   handed,
-  numberOf,
-  valuesOf,
+  SHORT-VALUES,
+  numberSaid,
+  valuesSaid,
   into,
   says,
   gives,
@@ -33,7 +34,7 @@ use Rattle.hand.specs.Handed.{
 }
 use Rattle.laws.proofs.Stored.{stored-front}
 
-pub short : {E : Type 0} {least : ℕ} (number : ℕ) (row old : List E) → length old < least → handed 7 old ≡ into least number row old
+pub short : {E : Type 0} {least : ℕ} (number : ℕ) (row old : List E) → length old < least → handed SHORT-VALUES old ≡ into least number row old
 short {least = least} number row old h = rw (lt-ltb (length old) least h) refl
 
 pub roomy : {E : Type 0} {least number r : ℕ} {row v new : List E} (old : List E) → least ≤ length old → number ≡ r → row ≡ v
@@ -60,25 +61,41 @@ few ProgramLengthV0 = omega arith
 few BadVersion = omega arith
 few BadBuilder = omega arith
 
+-- no refusal has the number that a slice which is too short has
+pub number-apart : (why : Refusal) → refusals.numberOf why < SHORT-VALUES
+number-apart TooLong = omega arith
+number-apart (NonMinimal place) = omega arith
+number-apart (EarlyEnd place) = omega arith
+number-apart NumberTooLong = omega arith
+number-apart NumberNotMinimal = omega arith
+number-apart NumberOutOfRange = omega arith
+number-apart (NoRoom needed) = omega arith
+number-apart BadCursor = omega arith
+number-apart FeeTooLarge = omega arith
+number-apart ProgramLength = omega arith
+number-apart ProgramLengthV0 = omega arith
+number-apart BadVersion = omega arith
+number-apart BadBuilder = omega arith
+
 module _ {A : Type 0} {least : ℕ} (row : A → List ℕ) (said : Said A) (old : List ℕ) where
-  pub says-short : length old < least → handed 7 old ≡ says least row said old
+  pub says-short : length old < least → handed SHORT-VALUES old ≡ says least row said old
   unfolding says
-  says-short h = short (numberOf said) (valuesOf row said) old h
+  says-short h = short (numberSaid said) (valuesSaid row said) old h
 
   pub says-row : {x : A} {new : List ℕ} → least ≤ length old → said ≡ answers x → new ≡ row x ++ drop (length (row x)) old
       → handed 0 new ≡ says least row said old
   unfolding says
-  says-row h e g = roomy old h (ap numberOf e) (ap (valuesOf row) e) g
+  says-row h e g = roomy old h (ap numberSaid e) (ap (valuesSaid row) e) g
 
   pub says-refused : (why : Refusal) {r : ℕ} {new : List ℕ} → least ≤ length old → 1 ≤ length old → said ≡ saidRefusal why
       → (r ≡ refusals.numberOf why) × (new ≡ sets old 0 (refusals.valuesOf why)) → handed r new ≡ says least row said old
   unfolding says
   says-refused why h p e g =
       let f : length (refusals.valuesOf why) ≤ length old = omega (arith, few why) in
-      roomy old h (ap numberOf e ∙ sym (g .0)) (ap (valuesOf row) e) (g .1 ∙ stored-front (refusals.valuesOf why) old f)
+      roomy old h (ap numberSaid e ∙ sym (g .0)) (ap (valuesSaid row) e) (g .1 ∙ stored-front (refusals.valuesOf why) old f)
 
 module _ {least : ℕ} (row old : List ℕ) where
-  pub gives-short : length old < least → handed 7 old ≡ gives least row old
+  pub gives-short : length old < least → handed SHORT-VALUES old ≡ gives least row old
   unfolding gives
   gives-short h = short 0 row old h
 
@@ -86,7 +103,7 @@ module _ {least : ℕ} (row old : List ℕ) where
   unfolding gives
   gives-row h g = roomy {number = 0} {row = row} old h refl refl g
 
-pub reads-short : (said : Said ℤ) (old : List ℤ) → length old < 1 → handed 7 old ≡ reads said old
+pub reads-short : (said : Said ℤ) (old : List ℤ) → length old < 1 → handed SHORT-VALUES old ≡ reads said old
 unfolding reads
 reads-short (answers n) old h = short 0 (n ∷ []) old h
 reads-short (refuses n v) old h = short n [] old h
@@ -114,48 +131,48 @@ reads-as old p e = p ∙ ap (λ s. reads s old) e
 -- what the walk found needs five entries at most
 pub brief : (w : Walked) → length (walkedRow w) ≤ 5
 brief end = omega arith
-brief (opcode place code) = omega arith
-brief (push place form body len) = omega arith
+brief (found (opcode place code)) = omega arith
+brief (found (push place form body len)) = omega arith
 
 module _ (next : ℕ) (said : Said Walked) (old : List ℕ) where
-  pub steps-short : length old < 6 → handed 7 old ≡ steps next said old
+  pub steps-short : length old < 6 → handed SHORT-VALUES old ≡ steps next said old
   unfolding steps
-  steps-short h = short (numberOf said) (next ∷ valuesOf walkedRow said) old h
+  steps-short h = short (numberSaid said) (next ∷ valuesSaid walkedRow said) old h
 
   pub steps-row : (w : Walked) {new : List ℕ} → 6 ≤ length old → said ≡ answers w → new ≡ sets old 0 (next ∷ walkedRow w)
       → handed 0 new ≡ steps next said old
   unfolding steps
   steps-row w h e g =
       let f : length (next ∷ walkedRow w) ≤ length old = omega (arith, brief w) in
-      roomy old h (ap numberOf e) (ap (λ s. next ∷ valuesOf walkedRow s) e) (g ∙ stored-front (next ∷ walkedRow w) old f)
+      roomy old h (ap numberSaid e) (ap (λ s. next ∷ valuesSaid walkedRow s) e) (g ∙ stored-front (next ∷ walkedRow w) old f)
 
   pub steps-refused : (why : Refusal) {r : ℕ} {new : List ℕ} → 6 ≤ length old → said ≡ saidRefusal why
       → (r ≡ refusals.numberOf why) × (new ≡ sets old 0 (next ∷ refusals.valuesOf why)) → handed r new ≡ steps next said old
   unfolding steps
   steps-refused why h e g =
       let f : length (next ∷ refusals.valuesOf why) ≤ length old = omega (arith, few why) in
-      roomy old h (ap numberOf e ∙ sym (g .0)) (ap (λ s. next ∷ valuesOf walkedRow s) e) (g .1 ∙ stored-front (next ∷ refusals.valuesOf why) old f)
+      roomy old h (ap numberSaid e ∙ sym (g .0)) (ap (λ s. next ∷ valuesSaid walkedRow s) e) (g .1 ∙ stored-front (next ∷ refusals.valuesOf why) old f)
 
 module _ (o : Outcome) (old : List ℕ) where
   abbrev state : List ℕ → List ℕ
   state vs = o .used ∷ (rememberedAs (o .remembered) ∷ vs)
 
-  pub builds-short : length old < 3 → handed 7 old ≡ builds o old
+  pub builds-short : length old < 3 → handed SHORT-VALUES old ≡ builds o old
   unfolding builds
-  builds-short h = short (numberOf (o .said)) (state (valuesOf (λ done. []) (o .said))) old h
+  builds-short h = short (numberSaid (o .said)) (state (valuesSaid (λ done. []) (o .said))) old h
 
   pub builds-done : {new : List ℕ} → 3 ≤ length old → o .said ≡ answers tt → new ≡ sets old 0 (state []) → handed 0 new ≡ builds o old
   unfolding builds
   builds-done h e g =
       let f : length (state []) ≤ length old = omega arith in
-      roomy old h (ap numberOf e) (ap (λ s. state (valuesOf (λ done. []) s)) e) (g ∙ stored-front (state []) old f)
+      roomy old h (ap numberSaid e) (ap (λ s. state (valuesSaid (λ done. []) s)) e) (g ∙ stored-front (state []) old f)
 
   pub builds-refused : (why : Refusal) {r : ℕ} {new : List ℕ} → 3 ≤ length old → o .said ≡ saidRefusal why
       → (r ≡ refusals.numberOf why) × (new ≡ sets old 0 (state (refusals.valuesOf why))) → handed r new ≡ builds o old
   unfolding builds
   builds-refused why h e g =
       let f : length (state (refusals.valuesOf why)) ≤ length old = omega (arith, few why) in
-      roomy old h (ap numberOf e ∙ sym (g .0)) (ap (λ s. state (valuesOf (λ done. []) s)) e) (g .1 ∙ stored-front (state (refusals.valuesOf why)) old f)
+      roomy old h (ap numberSaid e ∙ sym (g .0)) (ap (λ s. state (valuesSaid (λ done. []) s)) e) (g .1 ∙ stored-front (state (refusals.valuesOf why)) old f)
 
 pub steps-as : (old : List ℕ) {n m : ℕ} {a b : Said Walked} {h : Handed ℕ} → h ≡ steps n a old → n ≡ m → a ≡ b → h ≡ steps m b old
 steps-as old {n} {m} {a} {b} p d e = p ∙ ap (λ k. steps k a old) d ∙ ap (λ s. steps m s old) e

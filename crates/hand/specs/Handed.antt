@@ -10,32 +10,36 @@ use Rattle.laws.specs.Choice.{if_then_else_}
 use Rattle.laws.specs.Said.{Said, answers, refuses}
 use Rattle.opcodes.specs.Opcode.{Sort, lengthBytes}
 use Rattle.opcodes.specs.Opcode as sort
-use Rattle.script.specs.Walk.{Walked, end, opcode, push}
+use Rattle.script.specs.Walk.{Walked, end, found, opcode, push}
 use Rattle.walked.specs.Walked.{Stretch, stretch}
 use Rattle.templates.specs.Kind.{Kind, p2pkh, p2sh, p2wpkh, p2wsh, p2tr, p2a, witness, p2pk, multisig, opreturn, other}
 use Rattle.building.specs.Lent.{Outcome}
 
 -- 'the answer is the refusal's number of document 01, 0 where there is none'
-abbrev pub numberOf : {A : Type 0} → Said A → ℕ
-numberOf (answers a) = 0
-numberOf (refuses n values) = n
+abbrev pub numberSaid : {A : Type 0} → Said A → ℕ
+numberSaid (answers a) = 0
+numberSaid (refuses n values) = n
 
 -- '.. and the values go into lent slices': an answer's, or those that stand beside the refusal's number
-abbrev pub valuesOf : {A : Type 0} → (A → List ℕ) → Said A → List ℕ
-valuesOf row (answers a) = row a
-valuesOf row (refuses n values) = values
+abbrev pub valuesSaid : {A : Type 0} → (A → List ℕ) → Said A → List ℕ
+valuesSaid row (answers a) = row a
+valuesSaid row (refuses n values) = values
 
 -- what a call returns and leaves in the slice
 pub data Handed (E : Type 0) : Type 0 where
   handed : (r : ℕ) (values : List E) → Handed E
 
--- 'a lent slice that is too short is refusal 7 and untouched'; else the values stand at its front, where so many entries are needed
+-- what a call returns that is lent too short a slice for its answer: a mistake of the caller's, and no refusal. Document 01's numbers end at 13.
+abbrev pub SHORT-VALUES : ℕ
+SHORT-VALUES = 255
+
+-- a slice with fewer entries than are needed is left as it was, whatever would be answered; else the values stand at its front
 abbrev pub into : {E : Type 0} (least number : ℕ) (row old : List E) → Handed E
-into least number row old = if ltb (length old) least then handed 7 old else handed number (row ++ drop (length row) old)
+into least number row old = if ltb (length old) least then handed SHORT-VALUES old else handed number (row ++ drop (length row) old)
 
 -- a call that says this
 unfoldable pub says : {A : Type 0} (least : ℕ) (row : A → List ℕ) (said : Said A) (old : List ℕ) → Handed ℕ
-says least row said old = into least (numberOf said) (valuesOf row said) old
+says least row said old = into least (numberSaid said) (valuesSaid row said) old
 
 -- a call that cannot be refused
 unfoldable pub gives : (least : ℕ) (row old : List ℕ) → Handed ℕ
@@ -71,8 +75,8 @@ sortRow sort.plain = 2 ∷ []
 -- end; an opcode; a push, its form as the number of length bytes
 abbrev pub walkedRow : Walked → List ℕ
 walkedRow end = 0 ∷ []
-walkedRow (opcode place code) = 1 ∷ (place ∷ (code ∷ []))
-walkedRow (push place form body len) = 2 ∷ (place ∷ (lengthBytes form ∷ (body ∷ (len ∷ []))))
+walkedRow (found (opcode place code)) = 1 ∷ (place ∷ (code ∷ []))
+walkedRow (found (push place form body len)) = 2 ∷ (place ∷ (lengthBytes form ∷ (body ∷ (len ∷ []))))
 
 -- the eleven kinds in document 01's order, from 1
 abbrev pub kindRow : Kind → List ℕ
@@ -108,15 +112,15 @@ rememberedAs (some code) = code
 
 -- the builder for the next call, and behind it the refusal's values
 unfoldable pub builds : Outcome → List ℕ → Handed ℕ
-builds o old = into 3 (numberOf (o .said)) (o .used ∷ (rememberedAs (o .remembered) ∷ valuesOf (λ done. []) (o .said))) old
+builds o old = into 3 (numberSaid (o .said)) (o .used ∷ (rememberedAs (o .remembered) ∷ valuesSaid (λ done. []) (o .said))) old
 
 -- the place for the next call, and behind it what the walk says
 unfoldable pub steps : (next : ℕ) → Said Walked → List ℕ → Handed ℕ
-steps next said old = into 6 (numberOf said) (next ∷ valuesOf walkedRow said) old
+steps next said old = into 6 (numberSaid said) (next ∷ valuesSaid walkedRow said) old
 
--- the same, with the place lent in a slice of its own, which may be too short as well
+-- the same, with the place lent in a slice of its own; one without an entry is the same mistake
 unfoldable pub advances : (cursor : List ℕ) (next : ℕ) → Said Walked → List ℕ → Handed ℕ
-advances cursor next said old = if ltb (length cursor) 1 then handed 7 old else steps next said old
+advances cursor next said old = if ltb (length cursor) 1 then handed SHORT-VALUES old else steps next said old
 
 -- that slice after the call: moved on, unless one of the two is too short
 unfoldable pub movedTo : (next : ℕ) (cursor values : List ℕ) → List ℕ

@@ -26,8 +26,8 @@ ghost use Rattle.walked.specs.Answer.{saidPlace};
 ghost use Rattle.dust.specs.Answer.{saidDust};
 ghost use Rattle.hand.specs.Handed.{handed, says, gives, reads, one, yes, maybe, twoOf, sortRow, kindRow};
 
-// Refusal 7, as a number.
-pub const NO_ROOM: u32 = 7;
+// What a call returns that is lent too short a slice for its answer, whatever the answer would be. It then changes nothing. That is no refusal.
+pub const SHORT_VALUES: u32 = 255;
 
 // A refusal: its number, and its value, where it has one, in this entry, if the slice has it.
 pub fn refusal(why: Refusal, values: &mut [u64], at: usize) -> u32
@@ -52,7 +52,7 @@ pub fn count(answer: Counted, values: &mut [u64]) -> u32
     ensures { λ r. ⌜ handed r (now (values .exit)) ≡ says 1 one (saidCount answer) (now (values .entry)) ⌝ }
 {
     if values.len() < 1 {
-        return NO_ROOM;
+        return SHORT_VALUES;
     }
     match answer {
         Counted::Count(n) => {
@@ -68,7 +68,7 @@ pub fn dust(answer: Dust, values: &mut [u64]) -> u32
     ensures { λ r. ⌜ handed r (now (values .exit)) ≡ says 1 one (saidDust answer) (now (values .entry)) ⌝ }
 {
     if values.len() < 1 {
-        return NO_ROOM;
+        return SHORT_VALUES;
     }
     match answer {
         Dust::Satoshi(n) => {
@@ -91,7 +91,7 @@ pub fn judged(answer: Judged, values: &mut [u64]) -> u32
     ensures { λ r. ⌜ handed r (now (values .exit)) ≡ says 1 yes (saidJudged answer) (now (values .entry)) ⌝ }
 {
     if values.len() < 1 {
-        return NO_ROOM;
+        return SHORT_VALUES;
     }
     match answer {
         Judged::Answer(answer) => {
@@ -107,7 +107,7 @@ pub fn number(answer: Number, values: &mut [i64]) -> u32
     ensures { λ r. ⌜ handed r (now (values .exit)) ≡ reads (saidNumber answer) (now (values .entry)) ⌝ }
 {
     if values.len() < 1 {
-        return NO_ROOM;
+        return SHORT_VALUES;
     }
     match answer {
         Number::Value(n) => {
@@ -123,7 +123,7 @@ pub fn two(a: usize, b: usize, values: &mut [u64]) -> u32
     ensures { λ r. ⌜ handed r (now (values .exit)) ≡ gives 2 (a ∷ (b ∷ [])) (now (values .entry)) ⌝ }
 {
     if values.len() < 2 {
-        return NO_ROOM;
+        return SHORT_VALUES;
     }
     values[0] = a as u64;
     values[1] = b as u64;
@@ -135,7 +135,7 @@ pub fn code(answer: Code, values: &mut [u64]) -> u32
     ensures { λ r. ⌜ handed r (now (values .exit)) ≡ says 2 (maybe one) (answers (saidCode answer)) (now (values .entry)) ⌝ }
 {
     if values.len() < 2 {
-        return NO_ROOM;
+        return SHORT_VALUES;
     }
     match answer {
         Code::Is(n) => {
@@ -155,7 +155,7 @@ pub fn class(answer: Class, values: &mut [u64]) -> u32
     ensures { λ r. ⌜ handed r (now (values .exit)) ≡ says 2 sortRow (answers (saidClass answer)) (now (values .entry)) ⌝ }
 {
     if values.len() < 2 {
-        return NO_ROOM;
+        return SHORT_VALUES;
     }
     match answer {
         Class::Push(form) => {
@@ -179,7 +179,7 @@ pub fn version(answer: Version, values: &mut [u64]) -> u32
     ensures { λ r. ⌜ handed r (now (values .exit)) ≡ says 2 (maybe one) (saidVersion answer) (now (values .entry)) ⌝ }
 {
     if values.len() < 2 {
-        return NO_ROOM;
+        return SHORT_VALUES;
     }
     match answer {
         Version::Is(n) => {
@@ -200,7 +200,7 @@ pub fn coded(answer: Coded, values: &mut [u64]) -> u32
     ensures { λ r. ⌜ handed r (now (values .exit)) ≡ says 2 (maybe one) (saidCoded answer) (now (values .entry)) ⌝ }
 {
     if values.len() < 2 {
-        return NO_ROOM;
+        return SHORT_VALUES;
     }
     match answer {
         Coded::Bytes(n) => {
@@ -221,7 +221,7 @@ pub fn place(answer: Place, values: &mut [u64]) -> u32
     ensures { λ r. ⌜ handed r (now (values .exit)) ≡ says 3 (maybe twoOf) (saidPlace answer) (now (values .entry)) ⌝ }
 {
     if values.len() < 3 {
-        return NO_ROOM;
+        return SHORT_VALUES;
     }
     match answer {
         Place::At { start, len } => {
@@ -273,7 +273,7 @@ pub fn kind(answer: Kinded, values: &mut [u64]) -> u32
     ensures { λ r. ⌜ handed r (now (values .exit)) ≡ says 1 kindRow (saidKind answer) (now (values .entry)) ⌝ }
 {
     if values.len() < 1 {
-        return NO_ROOM;
+        return SHORT_VALUES;
     }
     match answer {
         Kinded::Is(kind) => {

@@ -2,7 +2,7 @@
 use builder::Answer;
 use builder::Builder;
 use builder::Built;
-use hand::NO_ROOM;
+use hand::SHORT_VALUES;
 use opcodes::Code;
 ghost use mathlib.Core.Path.{_≡_};
 ghost use mathlib.Core.List.{List};
@@ -48,7 +48,7 @@ pub fn built(answer: Built, values: &mut [u64]) -> u32
     ensures { λ r. ⌜ ((buffer : List ℕ) → handed r (now (values .exit)) ≡ builds (saidBuilt answer buffer) (now (values .entry))) ⌝ }
 {
     if values.len() < STATE_VALUES {
-        return NO_ROOM;
+        return SHORT_VALUES;
     }
     let builder = answer.builder;
     let said = answer.answer;

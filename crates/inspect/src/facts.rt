@@ -15,7 +15,7 @@ ghost use Rattle.templates.specs.Kind.{kindOf};
 ghost use Rattle.counts.specs.Count.{getSigOpCount};
 ghost use Rattle.dust.specs.Dust.{dustOf};
 ghost use Rattle.asm.specs.Asm.{textOf};
-ghost use Rattle.screen.specs.Screen.{most};
+ghost use Rattle.screen.specs.Screen.{mostShown};
 
 // The kind of a script within the limit.
 pub(crate) fn kind_of(script: &[u8]) -> Template
@@ -69,7 +69,7 @@ pub(crate) fn legacy_of(script: &[u8]) -> u64
 
 // How many bytes the text of a script within the inspector's limit has.
 pub(crate) fn text_len(script: &[u8]) -> usize
-    requires { ⌜ length (now script) ≤ most ⌝ }
+    requires { ⌜ length (now script) ≤ mostShown ⌝ }
     ensures { λ r. ⌜ (r ≡ length (textOf (now (script .entry)))) × (r ≤ 64416) ⌝ }
 {
     count_in(text::asm_len(script))

@@ -17,7 +17,7 @@ ghost use Rattle.laws.specs.Buffer.{writes, after};
 ghost use Rattle.refusal.specs.Answer.{saidCount};
 ghost use Rattle.refusal.specs.Refusal.{limit};
 ghost use Rattle.pool.specs.Text.{decimal};
-ghost use Rattle.screen.specs.Screen.{most, line, screenOf, inspectSays};
+ghost use Rattle.screen.specs.Screen.{mostShown, line, screenOf, inspectSays};
 ghost use Rattle.head.specs.Shown.{Shows};
 ghost use Rattle.screen.specs.Steps.{headOf};
 
@@ -46,15 +46,15 @@ fn head_of(script: &[u8]) -> Head
 
 // Whether a script is over the inspector's limit.
 fn is_over(script: &[u8]) -> bool
-    ensures { λ r. ⌜ r ≡ ltb most (length (now (script .entry))) ⌝ }
+    ensures { λ r. ⌜ r ≡ ltb mostShown (length (now (script .entry))) ⌝ }
 {
     MAX_INSPECTED < script.len()
 }
 
 // The screen of a script over the limit, written to the front of a lent buffer.
 fn write_refused(out: &mut [u8]) -> Counted
-    ensures answer { λ r. ⌜ saidCount r ≡ writes (line "refused" (decimal most)) (length (now (out .entry))) ⌝ }
-    ensures left { λ r. ⌜ now (out .exit) ≡ after (writes (line "refused" (decimal most)) (length (now (out .entry)))) (line "refused" (decimal most)) (now (out .entry)) ⌝ }
+    ensures answer { λ r. ⌜ saidCount r ≡ writes (line "refused" (decimal mostShown)) (length (now (out .entry))) ⌝ }
+    ensures left { λ r. ⌜ now (out .exit) ≡ after (writes (line "refused" (decimal mostShown)) (length (now (out .entry)))) (line "refused" (decimal mostShown)) (now (out .entry)) ⌝ }
 {
     if out.len() < REFUSED_LEN {
         return Counted::Refused(Refusal::NoRoom(REFUSED_LEN));

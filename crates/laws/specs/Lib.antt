@@ -1,3 +1,4 @@
 pub mod Choice
 pub mod Said
 pub mod Buffer
+pub mod Bytes

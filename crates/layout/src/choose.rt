@@ -8,7 +8,7 @@ use walk::Found;
 use walk::Mode;
 ghost use mathlib.Core.Path.{_≡_};
 ghost use Rattle.opcodes.specs.Opcode.{saidCode};
-ghost use Rattle.building.specs.Builder.{intOpcode, verifyForm, lastOpcode};
+ghost use Rattle.building.specs.Builder.{intOpcode, verifyForm, lastIfOpcode};
 
 // The opcode that pushes n, where there is one: -1 to 16.
 pub fn int_opcode(n: i64) -> Code
@@ -34,7 +34,7 @@ pub fn verify_form(remembered: Code) -> Code
 
 // The last instruction of a script, if it is an opcode and the plain walk refuses nothing.
 pub fn last_opcode(script: &[u8]) -> Code
-    ensures { λ r. ⌜ saidCode r ≡ lastOpcode (now (script .entry)) ⌝ }
+    ensures { λ r. ⌜ saidCode r ≡ lastIfOpcode (now (script .entry)) ⌝ }
 {
     let mut c = Cursor { at: 0 };
     let mut last = Code::Nothing;

@@ -7,7 +7,7 @@ use lib.IntN.{ℤ, pos, negsuc}
 use lib.ListN.{take}
 use Rattle.laws.specs.Said.{Said, answers, refuses}
 use Rattle.opcodes.specs.Opcode.{lengthBytes}
-use Rattle.script.specs.Walk.{Walked, end, opcode, push, sizeOf}
+use Rattle.script.specs.Walk.{Walked, end, found, opcode, push, sizeOf}
 use Rattle.script.specs.Calls.{call}
 use Rattle.numbers.specs.ScriptNum.{serialize, scriptNum, nDefaultMaxNumSize}
 use Rattle.counts.specs.Count.{countSays}
@@ -27,13 +27,14 @@ said row (answers a) = row a
 said row (refuses number values) = ("refusal", number ∷ values)
 
 -- 'The walk': a push with place, length bytes of its form, body place and body length
-abbrev pub walkedRow : Walked → Row
-walkedRow end = ("end", [])
-walkedRow (opcode place code) = ("opcode", place ∷ code ∷ [])
-walkedRow (push place form body len) = ("push", place ∷ lengthBytes form ∷ body ∷ len ∷ [])
+abbrev pub stepRow : Walked → Row
+stepRow end = ("end", [])
+stepRow (found (opcode place code)) = ("opcode", place ∷ code ∷ [])
+stepRow (found (push place form body len)) = ("push", place ∷ lengthBytes form ∷ body ∷ len ∷ [])
 
 abbrev pub sizeRow : Walked → Row
-sizeRow w = ("size", sizeOf w ∷ [])
+sizeRow end = ("size", 0 ∷ [])
+sizeRow (found i) = ("size", sizeOf i ∷ [])
 
 abbrev pub amountRow : ℕ → Row
 amountRow n = ("amount", n ∷ [])
@@ -48,14 +49,14 @@ bytesRow s = ("bytes", s)
 
 -- the call after n others, each given the cursor that the one before gave back
 abbrev pub plain : List ℕ → ℕ → Row
-plain s n = said walkedRow (call false s n)
+plain s n = said stepRow (call false s n)
 
 abbrev pub minimal : List ℕ → ℕ → Row
-minimal s n = said walkedRow (call true s n)
+minimal s n = said stepRow (call true s n)
 
 -- the size of what the first call gives in a mode
-abbrev pub size : Bool → List ℕ → Row
-size mode s = said sizeRow (call mode s 0)
+abbrev pub sizeAt : Bool → List ℕ → Row
+sizeAt mode s = said sizeRow (call mode s 0)
 
 -- by the name that the inspector shows
 abbrev pub kind : List ℕ → Row
@@ -71,8 +72,8 @@ asm s = bytesRow (textOf s)
 abbrev pub screen : List ℕ → Row
 screen s = bytesRow (screenOf s)
 
-abbrev pub written : ℤ → Row
-written n = bytesRow (serialize n)
+abbrev pub serialized : ℤ → Row
+serialized n = bytesRow (serialize n)
 
 -- read_scriptint, and read_scriptint_non_minimal
 abbrev pub strict : List ℕ → Row

@@ -9,7 +9,7 @@ use lib.ListN.{replicate}
 use Rattle.pool.specs.Text.{text}
 use Rattle.building.specs.Builder.{pushOpcode, pushVerify}
 use Rattle.building.specs.Lent.{Outcome, calls}
-use Rattle.marked.specs.Rows.{Row, plain, minimal, size, kind, dust, asm, written, strict, loose, accurate, legacy, screen, built, then}
+use Rattle.marked.specs.Rows.{Row, plain, minimal, sizeAt, kind, dust, asm, serialized, strict, loose, accurate, legacy, screen, built, then}
 
 abbrev pub W1 : List ℕ
 W1 = []
@@ -62,8 +62,8 @@ lines (l ∷ ls) = text l ++ (10 ∷ lines ls)
 abbrev pub P2A-output : List ℕ
 P2A-output = lines ("length 4" ∷ "kind p2a" ∷ "sigops 0 0" ∷ "dust 240" ∷ "asm OP_PUSHNUM_1 OP_PUSHBYTES_2 4e73" ∷ [])
 
-abbrev pub table : List (Row × Row)
-table =
+abbrev pub examples : List (Row × Row)
+examples =
     -- W1 empty script: End,
     (plain W1 0, ("end", [])) ∷
     (minimal W1 0, ("end", [])) ∷
@@ -97,13 +97,13 @@ table =
     (minimal W7 0, ("push", 0 ∷ 2 ∷ 3 ∷ 256 ∷ [])) ∷
     (minimal W7 1, ("end", [])) ∷
     -- of size 259, both modes
-    (size false W7, ("size", 259 ∷ [])) ∷
-    (size true W7, ("size", 259 ∷ [])) ∷
+    (sizeAt false W7, ("size", 259 ∷ [])) ∷
+    (sizeAt true W7, ("size", 259 ∷ [])) ∷
     -- W8 writes: 127 `7f`, 128 `80 00`, -255 `ff 80`, 2147483647 `ff ff ff 7f`
-    (written (pos 127), ("bytes", 0x7f ∷ [])) ∷
-    (written (pos 128), ("bytes", 0x80 ∷ 0x00 ∷ [])) ∷
-    (written (negℤ (pos 255)), ("bytes", 0xff ∷ 0x80 ∷ [])) ∷
-    (written (pos 2147483647), ("bytes", 0xff ∷ 0xff ∷ 0xff ∷ 0x7f ∷ [])) ∷
+    (serialized (pos 127), ("bytes", 0x7f ∷ [])) ∷
+    (serialized (pos 128), ("bytes", 0x80 ∷ 0x00 ∷ [])) ∷
+    (serialized (negℤ (pos 255)), ("bytes", 0xff ∷ 0x80 ∷ [])) ∷
+    (serialized (pos 2147483647), ("bytes", 0xff ∷ 0xff ∷ 0xff ∷ 0x7f ∷ [])) ∷
     -- W9 `80`: strict 5, loose 0
     (strict W9, ("refusal", 5 ∷ [])) ∷
     (loose W9, ("number", 0 ∷ [])) ∷
@@ -122,7 +122,7 @@ table =
     (screen P2A, ("bytes", P2A-output)) ∷ []
 
 abbrev pub computed : List Row
-computed = map (λ line. line .0) table
+computed = map (λ line. line .0) examples
 
 abbrev pub paper : List Row
-paper = map (λ line. line .1) table
+paper = map (λ line. line .1) examples

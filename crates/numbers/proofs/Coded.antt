@@ -9,8 +9,9 @@ use native.Mathlib.Nat.{lt-of-not-le, lt-of-lt-of-le, pow-suc}
 use native.Mathlib.Omega.{arith}
 use borrow.Author.Tests.{le-leb, lt-leb}
 use lib.Count.{leading-top}
-use lib.ListN.{length, getD}
+use lib.ListN.{length}
 use lib.Pow.{pow-mono, pow-add}
+pub use Rattle.laws.specs.Bytes.{Bytes}
 use Rattle.laws.specs.Choice.{if_then_else_}
 use Rattle.laws.proofs.Test.{lt-or-le}
 use Rattle.numbers.specs.ScriptNum.{lowBytes, closeSign}
@@ -20,10 +21,6 @@ pub data Coded (s : ℕ) : ℕ → List ℕ → Type 0 where
   only : {m b : ℕ} → 0 < m → m < 128 → b ≡ m + s → Coded s m (b ∷ [])
   apart : {m b c : ℕ} → 128 ≤ m → m < 256 → b ≡ m → c ≡ s → Coded s m (b ∷ c ∷ [])
   low : {m b q c : ℕ} {v : List ℕ} → b < 256 → 0 < q → m ≡ b + 256 * q → Coded s q (c ∷ v) → Coded s m (b ∷ c ∷ v)
-
--- each element is a byte; past the end `getD` gives 0
-abbrev pub Bytes : List ℕ → Type 0
-Bytes v = (i : ℕ) → getD v i 0 < 256
 
 abbrev pub bit : Bool → ℕ
 bit neg = if neg then 0x80 else 0
@@ -50,6 +47,18 @@ nothing : (turns : ℕ) → lowBytes turns 0 ≡ []
 unfolding lowBytes
 nothing zero = refl
 nothing (suc turns) = refl
+
+same-bytes : (a b m : ℕ) → m ≤ a → m ≤ b → lowBytes a m ≡ lowBytes b m
+unfolding lowBytes
+same-bytes zero b zero h g = sym (nothing b)
+same-bytes zero b (suc n) h g = absurd (omega arith)
+same-bytes (suc a) b zero h g = sym (nothing b)
+same-bytes (suc a) zero (suc n) h g = absurd (omega arith)
+same-bytes (suc a) (suc b) (suc n) h g = ap (λ (v : List ℕ). suc n % 256 ∷ v) (same-bytes a b (suc n / 256) (omega arith) (omega arith))
+
+-- As many turns as the magnitude are enough for serialize's loop: more change nothing.
+pub low-bytes-turns : (turns m : ℕ) → m ≤ turns → lowBytes turns m ≡ lowBytes m m
+low-bytes-turns turns m h = same-bytes turns m m h (omega arith)
 
 turns-enough : (neg : Bool) (turns m : ℕ) → m ≤ turns → 0 < m → Coded (bit neg) m (closeSign neg (lowBytes turns m))
 unfolding lowBytes

@@ -114,6 +114,15 @@ minimal-coded b (c ∷ d ∷ v) h t =
 
 -- ---- what follows from the relation
 
+-- no bytes of the same magnitude are fewer
+pub none-fewer : {s m : ℕ} {w : List ℕ} → Coded s m w → (v : List ℕ) → Bytes v → magnitudeOf v ≡ m → length w ≤ length v
+none-fewer f [] h e = absurd (omega (arith, positive f))
+none-fewer (only x y z) (b ∷ v) h e = omega arith
+none-fewer (apart x y z w) (b ∷ []) h e = absurd (omega arith)
+none-fewer (apart x y z w) (b ∷ c ∷ v) h e = omega arith
+none-fewer (low x y z f) (b ∷ []) h e = absurd (omega arith)
+none-fewer (low x y z f) (b ∷ c ∷ v) h e = omega (arith, none-fewer f (c ∷ v) (λ i. h (suc i)) (omega (arith, h 0)))
+
 module _ {s : ℕ} (o : (s ≡ 0) ⊎ (s ≡ 128)) where
   pub magnitude-is : {m : ℕ} {v : List ℕ} → Coded s m v → magnitudeOf v ≡ m
   magnitude-is (only x y z) = ⊎-elim (λ e. omega arith) (λ e. omega arith) o

@@ -9,13 +9,14 @@ use borrow.Author.Tests.{le-ltb, eqb-false, ne-eqb}
 use lib.Count.{leadingZeros, leading-top}
 use lib.IntN.{ℤ, pos, negsuc, negℤ, natAbs}
 use lib.ListN.{length}
+use lib.Pow.{pow-pos}
 use lib.Signed.{ltZ}
 use mir.Syntax.{w64}
 use mir.Val.{SFits}
 use Rattle.laws.specs.Choice.{if_then_else_}
 use Rattle.numbers.specs.ScriptNum.{lowBytes, closeSign, serialize}
 use Rattle.numbers.specs.Answer.{isLeast}
-use Rattle.numbers.proofs.Coded.{Coded, Bytes, bit, bit-is, closed-coded, coded-bytes, coded-length, small-short}
+use Rattle.numbers.proofs.Coded.{Coded, Bytes, bit, bit-is, closed-coded, coded-bytes, coded-length, short-small, small-short}
 
 abbrev pub signed : Bool → ℕ → ℤ
 signed neg m = if neg then negℤ (pos m) else pos m
@@ -53,6 +54,11 @@ pub serialize-short : (k : ℕ) (n : ℤ) → natAbs n < 2 ^ (8 * k - 1) → len
 serialize-short k =
     by-sign (λ n. natAbs n < 2 ^ (8 * k - 1) → length (serialize n) ≤ k) (λ h. rw serialize-zero (omega arith))
     (λ neg m p h. small-short (serialize-coded neg m p) k (rw signed-size at h))
+
+pub serialize-small : (k : ℕ) (n : ℤ) → length (serialize n) ≤ k → natAbs n < 2 ^ (8 * k - 1)
+serialize-small k =
+    by-sign (λ n. length (serialize n) ≤ k → natAbs n < 2 ^ (8 * k - 1)) (λ h. pow-pos (8 * k - 1))
+    (λ neg m p h. rw signed-size (short-small (serialize-coded neg m p) k h))
 
 in-range : (n : ℤ) → SFits w64 n → isLeast n ≡ false → natAbs n < 2 ^ 63
 in-range (pos n) f e = f .sfits

@@ -48,8 +48,8 @@ lengthBytesAfter number = 0
 lengthBytesAfter plain = 0
 
 -- 0x51 to 0x60 carry numbers 1 to 16
-abbrev pub numberOf : ℕ → Option ℕ
-numberOf code = if ltb code 0x51 then none else if ltb code 0x61 then some (code - 0x50) else none
+abbrev pub pushnumOf : ℕ → Option ℕ
+pushnumOf code = if ltb code 0x51 then none else if ltb code 0x61 then some (code - 0x50) else none
 
 -- verify forms: 0x87 to 0x88, 0x9c to 0x9d, 0xac to 0xad, 0xae to 0xaf
 abbrev pub verifyOf : ℕ → Option ℕ

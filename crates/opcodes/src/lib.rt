@@ -1,6 +1,6 @@
 // Opcode bytes: what sort of instruction each starts, and what goes with it.
 ghost use mathlib.Core.Path.{_≡_};
-ghost use Rattle.opcodes.specs.Opcode.{sortOf, lengthBytes, saidClass, saidForm, numberOf, verifyOf, saidCode};
+ghost use Rattle.opcodes.specs.Opcode.{sortOf, lengthBytes, saidClass, saidForm, pushnumOf, verifyOf, saidCode};
 
 pub const OP_0: u8 = 0x00;
 
@@ -91,7 +91,7 @@ pub fn length_bytes(form: Form) -> usize
 
 // The number, 1 to 16, that a number opcode carries.
 pub fn decode_pushnum(code: u8) -> Code
-    ensures { λ r. ⌜ saidCode r ≡ numberOf code ⌝ }
+    ensures { λ r. ⌜ saidCode r ≡ pushnumOf code ⌝ }
 {
     match code {
         OP_PUSHNUM_1..=OP_PUSHNUM_16 => Code::Is(code - (OP_PUSHNUM_1 - 1)),

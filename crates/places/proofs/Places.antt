@@ -11,10 +11,10 @@ use lib.Seq.{sets, sets-eq}
 use Rattle.laws.specs.Said.{Said, answers, refuses, unless}
 use Rattle.opcodes.specs.Opcode.{Sort}
 use Rattle.opcodes.specs.Opcode as sort
-use Rattle.script.specs.Walk.{Walked, walked}
+use Rattle.script.specs.Walk.{Item, Walked, placeOf, walked}
 use Rattle.script.specs.Run.{walkFrom, items, ending}
 use Rattle.laws.specs.Buffer.{writes, after}
-use Rattle.places.specs.Places.{placeOf, placesOf, countSays, positionsSay}
+use Rattle.places.specs.Places.{placesOf, placeCountSays, positionsSay}
 
 -- what stands at a place starts there
 pub place-is : (k : Sort) (at code len : ℕ) → placeOf (walked k at code len) ≡ at
@@ -22,13 +22,13 @@ place-is (sort.push form) at code len = refl
 place-is sort.number at code len = refl
 place-is sort.plain at code len = refl
 
-length-places : (ws : List Walked) → length (map placeOf ws) ≡ length ws
+length-places : (ws : List Item) → length (map placeOf ws) ≡ length ws
 length-places [] = refl
 length-places (w ∷ ws) = ap suc (length-places ws)
 
 pub counted : (minimal : Bool) (s : List ℕ) {n : ℕ} {a : Said Walked} → (length (items (walkFrom minimal s 0)) ≡ n) × (ending (walkFrom minimal s 0) ≡ a)
-    → countSays minimal s ≡ unless a (answers n)
-unfolding countSays placesOf
+    → placeCountSays minimal s ≡ unless a (answers n)
+unfolding placeCountSays placesOf
 counted minimal s e = rw (length-places, e .0, e .1)
 
 -- ---- the answers of `positions`, by what the count was
@@ -41,9 +41,9 @@ module _ (minimal : Bool) (s old : List ℕ) where
   says = positionsSay minimal s (length old)
 
   -- the walk was refused
-  pub places-refused : {number : ℕ} {values : List ℕ} → refuses number values ≡ countSays minimal s
+  pub places-refused : {number : ℕ} {values : List ℕ} → refuses number values ≡ placeCountSays minimal s
       → (refuses number values ≡ says) × (old ≡ after says ps old)
-  unfolding countSays positionsSay
+  unfolding placeCountSays positionsSay
   places-refused {number} {values} e = go (ending (walkFrom minimal s 0)) e
     where
       go : (a : Said Walked) → refuses number values ≡ unless a (answers (length ps))
@@ -51,9 +51,9 @@ module _ (minimal : Bool) (s old : List ℕ) where
       go (answers w) e = (cc, cc)
       go (refuses number values) e = (e, refl)
 
-  module _ {n : ℕ} (e : answers n ≡ countSays minimal s) where
+  module _ {n : ℕ} (e : answers n ≡ placeCountSays minimal s) where
     counts : (length ps ≡ n) × (says ≡ writes ps (length old))
-    unfolding countSays positionsSay
+    unfolding placeCountSays positionsSay
     counts = go (ending (walkFrom minimal s 0)) e
       where
         go : (a : Said Walked) → answers n ≡ unless a (answers (length ps)) → (length ps ≡ n) × (unless a (writes ps (length old)) ≡ writes ps (length old))

@@ -5,14 +5,8 @@ use Prim.Native.Nat.{ℕ}
 use lib.ListN.{length}
 use Rattle.laws.specs.Said.{Said, answers, unless}
 use Rattle.laws.specs.Buffer.{writes}
-use Rattle.script.specs.Walk.{Walked, end, opcode, push}
+use Rattle.script.specs.Walk.{placeOf}
 use Rattle.script.specs.Run.{walkFrom, items, ending}
-
--- where an instruction starts
-abbrev pub placeOf : Walked → ℕ
-placeOf end = 0
-placeOf (opcode place code) = place
-placeOf (push place form body len) = place
 
 -- the places of all instructions of a script
 unfoldable pub placesOf : Bool → List ℕ → List ℕ
@@ -23,5 +17,5 @@ unfoldable pub positionsSay : Bool → List ℕ → ℕ → Said ℕ
 positionsSay minimal s room = unless (ending (walkFrom minimal s 0)) (writes (placesOf minimal s) room)
 
 -- how many there are
-unfoldable pub countSays : Bool → List ℕ → Said ℕ
-countSays minimal s = unless (ending (walkFrom minimal s 0)) (answers (length (placesOf minimal s)))
+unfoldable pub placeCountSays : Bool → List ℕ → Said ℕ
+placeCountSays minimal s = unless (ending (walkFrom minimal s 0)) (answers (length (placesOf minimal s)))

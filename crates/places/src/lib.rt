@@ -2,7 +2,6 @@
 use refusal::Counted;
 use refusal::Refusal;
 use walk::Cursor;
-use walk::Found;
 use walk::Mode;
 ghost use mathlib.Core.Path.{_≡_};
 ghost use Prim.Native.Nat.{_≤_};
@@ -10,36 +9,24 @@ ghost use lib.ListN.{length};
 ghost use lib.Seq.{sets};
 ghost use Rattle.laws.specs.Buffer.{after};
 ghost use Rattle.refusal.specs.Answer.{saidCount};
-ghost use Rattle.places.specs.Places.{countSays, placesOf, positionsSay};
+ghost use Rattle.places.specs.Places.{placeCountSays, placesOf, positionsSay};
 ghost use Rattle.walk.specs.Answer.{isMinimal};
 
 // How many instructions a script has to its end, or why the walk does not reach it.
 fn count(script: &[u8], mode: Mode) -> Counted
-    ensures { λ r. ⌜ saidCount r ≡ countSays (isMinimal mode) (now (script .entry)) ⌝ }
+    ensures { λ r. ⌜ saidCount r ≡ placeCountSays (isMinimal mode) (now (script .entry)) ⌝ }
 {
     let mut at: usize = 0;
     let mut n: usize = 0;
     loop {
-        let size = Cursor { at }.size(script, mode);
+        let size = walk::whole_size(script, at, mode);
         if size == 0 {
-            let stepped = Cursor { at }.next(script, mode);
-            let found = stepped.found;
-            match found {
-                Found::Refused(why) => {
+            let sized = Cursor { at }.size(script, mode);
+            match sized {
+                Counted::Refused(why) => {
                     return Counted::Refused(why);
                 }
-                Found::End => {
-                    return Counted::Count(n);
-                }
-                Found::Opcode { place: _, code: _ } => {
-                    return Counted::Count(n);
-                }
-                Found::Push {
-                    place: _,
-                    form: _,
-                    body: _,
-                    len: _,
-                } => {
+                Counted::Count(_) => {
                     return Counted::Count(n);
                 }
             }
@@ -57,7 +44,7 @@ fn write_places(script: &[u8], mode: Mode, table: &mut [u32])
     let mut at: usize = 0;
     let mut i: usize = 0;
     loop {
-        let size = Cursor { at }.size(script, mode);
+        let size = walk::whole_size(script, at, mode);
         if size == 0 {
             return;
         }

@@ -1,3 +1,4 @@
 pub mod Settled
 pub mod Pooled
 pub mod Distinct
+pub mod Decimal

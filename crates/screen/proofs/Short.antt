@@ -19,16 +19,16 @@ use Rattle.dust.specs.Dust.{dustOf}
 use Rattle.asm.specs.Asm.{opcodeText, dataText, spaceAt, dataLen, textFrom, textOf}
 use Rattle.asm.proofs.Turn.{ends, length-cut, opened, behind, behind-cut, behind-whole}
 use Rattle.asm.proofs.Sizes.{hex-length, space-short, opcode-short}
-use Rattle.screen.specs.Screen.{most, kindName, line, bothCounts, screenOf, inspectSays}
+use Rattle.screen.specs.Screen.{mostShown, kindName, line, bothCounts, screenOf, inspectSays}
 use Rattle.screen.specs.Steps.{headOf}
 use Rattle.screen.proofs.Whole.{over, within-length}
 
-digits-short : (most n : ℕ) (rest : List ℕ) → length (digits most n rest) ≤ most + length rest
+digits-short : (k n : ℕ) (rest : List ℕ) → length (digits k n rest) ≤ k + length rest
 unfolding digits
 digits-short zero n rest = omega arith
-digits-short (suc most) n rest =
-    by-test (λ l. length l ≤ suc most + length rest) (ltb n 10) {x = (48 + n) ∷ rest} {y = digits most (n / 10) ((48 + n % 10) ∷ rest)}
-    (λ e. omega arith) (λ e. omega (arith, digits-short most (n / 10) ((48 + n % 10) ∷ rest)))
+digits-short (suc k) n rest =
+    by-test (λ l. length l ≤ suc k + length rest) (ltb n 10) {x = (48 + n) ∷ rest} {y = digits k (n / 10) ((48 + n % 10) ∷ rest)}
+    (λ e. omega arith) (λ e. omega (arith, digits-short k (n / 10) ((48 + n % 10) ∷ rest)))
 
 pub decimal-short : (n : ℕ) → length (decimal n) ≤ 20
 unfolding decimal
@@ -146,9 +146,9 @@ pub screen-short : (s : List ℕ) → ((i : ℕ) → getD s i 0 < 256) → lengt
 unfolding decimal digits
 screen-short s bytes =
     ⊎-elim
-    (λ (h : most < length s). omega (arith, ap length (over s (lt-ltb most (length s) h))))
-    (λ (h : length s ≤ most). omega (arith, within-length s h, head-short s, text-short s bytes))
-    (lt-or-le most (length s))
+    (λ (h : mostShown < length s). omega (arith, ap length (over s (lt-ltb mostShown (length s) h))))
+    (λ (h : length s ≤ mostShown). omega (arith, within-length s h, head-short s, text-short s bytes))
+    (lt-or-le mostShown (length s))
 
 -- a buffer of so many bytes has room for every screen
 pub has-room : (s : List ℕ) → ((i : ℕ) → getD s i 0 < 256) → (room : ℕ) → 64538 ≤ room → inspectSays s room ≡ answers (length (screenOf s))

@@ -11,21 +11,21 @@ use Rattle.pool.specs.Text.{text, decimal}
 use Rattle.templates.specs.Kind.{kindOf}
 use Rattle.dust.specs.Dust.{dustOf}
 use Rattle.asm.specs.Asm.{textOf}
-use Rattle.screen.specs.Screen.{most, kindName, line, bothCounts, linesOf, screenOf}
+use Rattle.screen.specs.Screen.{mostShown, kindName, line, bothCounts, linesOf, screenOf}
 use Rattle.screen.specs.Steps.{headOf}
 
 regroup : (a b c d e t : List ℕ) → a ++ b ++ c ++ (d ++ e) ++ t ≡ a ++ (b ++ (c ++ (d ++ (e ++ t))))
 regroup a b c d e t = simp append-assoc
 
-pub over : (s : List ℕ) → ltb most (length s) ≡ true → screenOf s ≡ line "refused" (decimal most)
+pub over : (s : List ℕ) → ltb mostShown (length s) ≡ true → screenOf s ≡ line "refused" (decimal mostShown)
 unfolding screenOf
 over s h = rw h
 
-module _ (s : List ℕ) (h : length s ≤ most) where
+module _ (s : List ℕ) (h : length s ≤ mostShown) where
   pub within : screenOf s ≡ headOf s ++ (textOf s ++ (10 ∷ []))
   unfolding screenOf linesOf headOf
   within =
-      rw (le-ltb most (length s) h)
+      rw (le-ltb mostShown (length s) h)
       (sym
       (regroup (line "length" (decimal (length s))) (line "kind" (text (kindName (kindOf s)))) (line "sigops" (bothCounts s))
       (line "dust" (decimal (dustOf s))) (text "asm ") (textOf s ++ (10 ∷ []))))

@@ -15,8 +15,8 @@ use Rattle.dust.specs.Dust.{dustOf}
 use Rattle.asm.specs.Asm.{textOf}
 
 -- 'at most 2,800 bytes'
-abbrev pub most : ℕ
-most = 2800
+abbrev pub mostShown : ℕ
+mostShown = 2800
 
 -- 'Kind, first that fits: p2pkh, p2sh, ..'
 abbrev pub kindName : Kind → String
@@ -51,7 +51,7 @@ linesOf s =
 
 -- 'more prints the one line `refused 2800`'
 unfoldable pub screenOf : List ℕ → List ℕ
-screenOf s = if ltb most (length s) then line "refused" (decimal most) else linesOf s
+screenOf s = if ltb mostShown (length s) then line "refused" (decimal mostShown) else linesOf s
 
 -- the screen written to a buffer of so many bytes
 unfoldable pub inspectSays : List ℕ → ℕ → Said ℕ

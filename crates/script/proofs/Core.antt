@@ -13,7 +13,7 @@ use Rattle.refusal.specs.Refusal.{limit}
 use Rattle.opcodes.specs.Opcode.{sortOf}
 use Rattle.script.specs.Script.{fails, reads, getScriptOp, checkMinimalPush}
 use Rattle.opcodes.specs.Core.{OP-PUSHDATA4}
-use Rattle.script.specs.Walk.{walked, notMinimal}
+use Rattle.script.specs.Walk.{found, walked, notMinimal}
 use Rattle.script.specs.Instruction.{Bytes, size, wasteful}
 use Rattle.script.specs.Calls.{HandsOut}
 use Rattle.script.proofs.Step.{inside}
@@ -47,7 +47,7 @@ module _ (s : List ℕ) (l : length s ≤ limit) (bytes : Bytes s) (at code : �
           let q : at + size i ≡ pc = cc in
           record { i = i; hands = g; code-is = cc; data-is = cc; next = n ∙ q }
       there h e m (refused number values r) =
-          absurd (not-both minimal s l at {w = walked (sortOf code) at code (length vch)} r (inside minimal s at l h ∙ rw (e, m)))
+          absurd (not-both minimal s l at {w = found (walked (sortOf code) at code (length vch))} r (inside minimal s at l h ∙ rw (e, m)))
 
       back : HandsOut minimal s at code vch pc → (getScriptOp s at ≡ reads code vch pc) × ((minimal && notMinimal code vch) ≡ false)
       back h =

@@ -15,7 +15,7 @@ use Rattle.refusal.specs.Refusal.{limit}
 use Rattle.opcodes.specs.Opcode.{PushForm, direct, pushdata1, pushdata2, pushdata4, lengthBytes, sortOf}
 use Rattle.script.specs.Script.{ScriptOp, fails, reads, getScriptOp}
 use Rattle.script.specs.Steps.{stated}
-use Rattle.script.specs.Walk.{Walked, end, walked, notMinimal, cutNotMinimal, judged, walkSays, moved, nextAt}
+use Rattle.script.specs.Walk.{Walked, end, found, walked, notMinimal, cutNotMinimal, judged, walkSays, moved, nextAt}
 use Rattle.script.specs.Walk as walk
 use Rattle.script.specs.Instruction.{Instruction, opcode, push, Bytes, Stands, opcodeOf, writeLE, size, wasteful, codeOf, dataOf, StandsAt}
 use Rattle.script.specs.Calls.{given}
@@ -101,7 +101,7 @@ module _ (minimal : Bool) (s : List ℕ) (l : length s ≤ limit) (at : ℕ) whe
       placed (reads code vch pc) = by-test (Place at) (minimal && notMinimal code vch) (λ t. (inl refl, refl)) (λ t. tt)
 
   -- what Core reads and the mode takes is no refusal
-  standing-answers : (i : Instruction) → StandsAt minimal s at i → walkSays minimal s at ≡ answers (walked (sortOf (codeOf i)) at (codeOf i) (length (dataOf i)))
+  standing-answers : (i : Instruction) → StandsAt minimal s at i → walkSays minimal s at ≡ answers (found (walked (sortOf (codeOf i)) at (codeOf i) (length (dataOf i))))
   standing-answers i a =
       let f = bytes-laid s at i (a .bytes) in
       let m : (minimal && wasteful i) ≡ false = not-true (minimal && wasteful i) (a .taken) in
@@ -120,10 +120,10 @@ module _ (minimal : Bool) (s : List ℕ) (l : length s ≤ limit) (at : ℕ) whe
       where
         go : (a : Said Walked) → walkSays minimal s at ≡ a → Says
         go (answers end) e = says-end (ends-exactly .0 e)
-        go (answers (walk.opcode place code)) e =
+        go (answers (found (walk.opcode place code))) e =
             hands (opcode code) (opcode-stands minimal s bytes at place code (good-answer minimal s at _ e)) (rw e) (rw e)
-        go (answers (walk.push place form body len)) e =
-            let g = good-answer minimal s at (answers (walk.push place form body len)) e in
+        go (answers (found (walk.push place form body len))) e =
+            let g = good-answer minimal s at (answers (found (walk.push place form body len))) e in
             let n : length (take len (drop body s)) ≡ len = length-take-le len (drop body s) (simp length-drop (omega (arith, g .fits))) in
             hands (push form (take len (drop body s))) (push-stands minimal s bytes at place form body len n g) (rw e) (rw (e, n))
         go (refuses number values) e = refused number values e

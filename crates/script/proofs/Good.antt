@@ -15,7 +15,7 @@ use Rattle.refusal.specs.Refusal.{limit}
 use Rattle.opcodes.specs.Opcode.{PushForm, lengthBytes, Sort, sortOf}
 use Rattle.opcodes.specs.Opcode as sort
 use Rattle.script.specs.Script.{ScriptOp, fails, reads, assign}
-use Rattle.script.specs.Walk.{Walked, end, opcode, push, notMinimal, cutNotMinimal, judged, walkSays}
+use Rattle.script.specs.Walk.{Walked, end, found, opcode, push, notMinimal, cutNotMinimal, judged, walkSays}
 use Rattle.script.specs.Steps.{stated}
 use Rattle.script.proofs.Step.{inside, push-code, number-code, plain-code, push-read, opcode-says}
 
@@ -39,8 +39,8 @@ pub record PushAt (minimal : Bool) (s : List ℕ) (p place : ℕ) (form : PushFo
 
 abbrev pub Good : Bool → List ℕ → ℕ → Said Walked → Type 0
 Good minimal s p (answers end) = (length s ≡ p) × (length s ≤ limit)
-Good minimal s p (answers (opcode place code)) = OpcodeAt s p place code
-Good minimal s p (answers (push place form body len)) = PushAt minimal s p place form body len
+Good minimal s p (answers (found (opcode place code))) = OpcodeAt s p place code
+Good minimal s p (answers (found (push place form body len))) = PushAt minimal s p place form body len
 Good minimal s p (refuses number values) = Unit {0}
 
 module _ (minimal : Bool) (s : List ℕ) (p : ℕ) (l : length s ≤ limit) (h : p < length s) where

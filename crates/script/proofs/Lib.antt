@@ -1,3 +1,4 @@
+pub mod Examples
 pub mod Little
 pub mod Minimal
 pub mod Step
@@ -9,3 +10,5 @@ pub mod Reading
 pub mod Exactly
 pub mod Handed
 pub mod Core
+pub mod Demand
+pub mod Whole

@@ -13,7 +13,7 @@ use Rattle.laws.proofs.Test.{by-test, lt-or-le}
 use Rattle.opcodes.specs.Opcode.{PushForm, direct, pushdata1, pushdata2, pushdata4}
 use Rattle.script.specs.Script.{checkMinimalPush}
 use Rattle.script.specs.Walk.{notMinimal}
-use Rattle.script.specs.Instruction.{push, most, wasteful}
+use Rattle.script.specs.Instruction.{push, mostStated, wasteful}
 
 -- the opcode byte of a push, by its form
 abbrev pub IsOf : PushForm → ℕ → Type 0
@@ -62,7 +62,7 @@ form-check code least v c l one two four =
     by-test P (leb n 65535) (λ e. two (leb-false n 255 e₄) (leb-true n 65535 e)) (λ e. four (leb-false n 65535 e))
 
 -- the judgement is the same for every form
-pub minimal-same : (form : PushForm) (code : ℕ) (v : List ℕ) → IsOf form code → (form ≡ direct → code ≡ length v) → length v ≤ most form
+pub minimal-same : (form : PushForm) (code : ℕ) (v : List ℕ) → IsOf form code → (form ≡ direct → code ≡ length v) → length v ≤ mostStated form
     → notMinimal code v ≡ wasteful (push form v)
 unfolding notMinimal
 minimal-same direct code v o e m = rw (le-leb code 78 (omega arith)) (direct-check code v (e refl) o)

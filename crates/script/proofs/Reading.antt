@@ -10,21 +10,21 @@ use Rattle.opcodes.specs.Opcode.{PushForm, direct, pushdata1, pushdata2, pushda
 use Rattle.opcodes.specs.Opcode as sort
 use Rattle.script.specs.Script.{reads, assign, getScriptOp}
 use Rattle.script.specs.Steps.{stated}
-use Rattle.script.specs.Instruction.{Instruction, opcode, push, most, Stands, opcodeOf, encode, encodeAll, size, codeOf, dataOf, Each}
+use Rattle.script.specs.Instruction.{Instruction, opcode, push, mostStated, Stands, opcodeOf, encode, encodeAll, size, codeOf, dataOf, Each}
 use Rattle.script.proofs.Minimal.{IsOf}
 use Rattle.script.proofs.Step.{by-sort, opcode-read, push-read}
 use Rattle.script.proofs.Encoding.{read-written, size-is, encode-length, Laid, bytes-laid}
 
 -- ---- where the bytes stand, they are read
 
-pub form-code : (form : PushForm) (n : ℕ) → n ≤ most form → IsOf form (opcodeOf form n)
+pub form-code : (form : PushForm) (n : ℕ) → n ≤ mostStated form → IsOf form (opcodeOf form n)
 form-code direct n h = omega arith
 form-code pushdata1 n h = refl
 form-code pushdata2 n h = refl
 form-code pushdata4 n h = refl
 
 module _ (s : List ℕ) (at : ℕ) where
-  says-length : (form : PushForm) (body : List ℕ) → length body ≤ most form → Laid s at (push form body) → stated (lengthBytes form) s at ≡ length body
+  says-length : (form : PushForm) (body : List ℕ) → length body ≤ mostStated form → Laid s at (push form body) → stated (lengthBytes form) s at ≡ length body
   unfolding stated
   says-length direct body m l = l .code
   says-length pushdata1 body m l = read-written s 1 (at + 1) (length body) (omega (arith, l .fits)) (omega arith) (l .lengths)

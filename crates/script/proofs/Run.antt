@@ -7,7 +7,7 @@ use native.Mathlib.Omega.{arith}
 use lib.ListN.{length}
 use Rattle.laws.specs.Said.{Said, answers, refuses}
 use Rattle.refusal.specs.Refusal.{limit}
-use Rattle.script.specs.Walk.{Walked, end, opcode, push, walkSays, moved, nextAt}
+use Rattle.script.specs.Walk.{Walked, end, found, opcode, push, placeOf, walkSays, moved, nextAt}
 use Rattle.script.specs.Run.{Run, item, continue, walkFor, walkFrom}
 use Rattle.script.proofs.Good.{Good, good-answer}
 
@@ -20,14 +20,13 @@ pub record Moves (s : List ℕ) (p q place : ℕ) : Type 0 where
 
 abbrev pub Moved : List ℕ → ℕ → ℕ → Said Walked → Type 0
 Moved s p q (answers end) = (length s ≡ p) × (length s ≤ limit)
-Moved s p q (answers (opcode place code)) = Moves s p q place
-Moved s p q (answers (push place form body len)) = Moves s p q place
+Moved s p q (answers (found i)) = Moves s p q (placeOf i)
 Moved s p q (refuses number values) = Unit {0}
 
 by-good : (minimal : Bool) (s : List ℕ) (p : ℕ) (a : Said Walked) → Good minimal s p a → Moved s p (moved a s p) a
 by-good minimal s p (answers end) g = g
-by-good minimal s p (answers (opcode place code)) g = record { here = g .here; on = omega arith; within = g .fits; small = g .small }
-by-good minimal s p (answers (push place form body len)) g =
+by-good minimal s p (answers (found (opcode place code))) g = record { here = g .here; on = omega arith; within = g .fits; small = g .small }
+by-good minimal s p (answers (found (push place form body len))) g =
     record { here = g .here; on = omega arith; within = omega (arith, g .fits, g .starts); small = g .small }
 by-good minimal s p (refuses number values) g = tt
 
@@ -39,8 +38,7 @@ moves minimal s p {a = a} e m = rw (m, sym e) (by-good minimal s p a (good-answe
 -- the rest matters only where the call gives an instruction
 rest-same : (s : List ℕ) (p q : ℕ) (a : Said Walked) (f g : Run) → Moved s p q a → (p < q → q ≤ length s → f ≡ g) → continue a f ≡ continue a g
 rest-same s p q (answers end) f g m e = refl
-rest-same s p q (answers (opcode place code)) f g m e = ap (item (opcode place code)) (e (m .on) (m .within))
-rest-same s p q (answers (push place form body len)) f g m e = ap (item (push place form body len)) (e (m .on) (m .within))
+rest-same s p q (answers (found i)) f g m e = ap (item i) (e (m .on) (m .within))
 rest-same s p q (refuses number values) f g m e = refl
 
 enough : (minimal : Bool) (s : List ℕ) (n k p : ℕ) → length s - p < n → length s - p < k → walkFor n minimal s p ≡ walkFor k minimal s p
@@ -50,6 +48,11 @@ enough minimal s (suc n) zero p a b = absurd (omega arith)
 enough minimal s (suc n) (suc k) p a b =
     let q = nextAt minimal s p in
     rest-same s p q (walkSays minimal s p) _ _ (moves minimal s p refl refl) (λ l h. enough minimal s n k q (omega arith) (omega arith))
+
+-- A call for each byte and one more are turns enough, and more change nothing.
+pub walk-turns : (minimal : Bool) (s : List ℕ) (p n : ℕ) → length s - p < n → walkFor n minimal s p ≡ walkFrom minimal s p
+unfolding walkFrom
+walk-turns minimal s p n h = enough minimal s n (suc (length s - p)) p h (omega arith)
 
 pub unroll : (minimal : Bool) (s : List ℕ) (p : ℕ) → walkFrom minimal s p ≡ continue (walkSays minimal s p) (walkFrom minimal s (nextAt minimal s p))
 unfolding walkFrom walkFor

@@ -6,12 +6,12 @@ use mathlib.Core.List.{List}
 use Prim.Native.Nat.{ℕ, _+_, _-_, _≤_, _<_}
 use native.Mathlib.Omega.{arith}
 use lib.ListN.{length, getD}
-use Rattle.laws.specs.Said.{Said, answers, refuses}
+use Rattle.laws.specs.Said.{Said, answers, refuses, unless}
 use Rattle.laws.proofs.Test.{lt-or-le}
 use Rattle.refusal.specs.Refusal.{limit}
 use Rattle.opcodes.specs.Opcode.{PushForm, lengthBytes, Sort, sortOf, lengthBytesAfter}
 use Rattle.opcodes.specs.Opcode as sort
-use Rattle.script.specs.Walk.{Walked, end, opcode, push, walked, walkSays, nextAt, sizeSaid}
+use Rattle.script.specs.Walk.{Item, Walked, end, found, opcode, push, walked, walkSays, nextAt, sizeSaid, sizeSays}
 use Rattle.script.specs.Run.{stop, item, walkFrom}
 use Rattle.script.specs.Instruction.{Bytes}
 use Rattle.script.specs.Steps.{stated, tooShort}
@@ -40,7 +40,7 @@ module _ (minimal : Bool) (s : List ℕ) (at : ℕ) (form : PushForm) (sort-of :
 
   -- a push is refused, or stands whole
   abbrev Whole : Type 0
-  Whole = (walkSays minimal s at ≡ answers (push at form body len)) × (body + len ≤ length s)
+  Whole = (walkSays minimal s at ≡ answers (found (push at form body len))) × (body + len ≤ length s)
 
   judged : (b : Bool) → tooShort minimal form s body len ≡ b → body ≤ length s → (sizeSaid (walkSays minimal s at) ≡ 0) ⊎ Whole
   judged true e t = inl (ap sizeSaid (sym (says-short minimal s at form sort-of bytes l h k len k-is refl t e .0)))
@@ -69,8 +69,8 @@ module _ (minimal : Bool) (s : List ℕ) (at : ℕ) (form : PushForm) (sort-of :
     pub size-fits : at + size ≤ length s
     size-fits = omega (arith, sizes, whole .1)
 
-    pub whole-push : walkSays minimal s at ≡ answers (push at form body (size - (1 + k)))
-    whole-push = whole .0 ∙ ap (λ n. answers (push at form body n)) (omega (arith, sizes))
+    pub whole-push : walkSays minimal s at ≡ answers (found (push at form body (size - (1 + k))))
+    whole-push = whole .0 ∙ ap (λ n. answers (found (push at form body n))) (omega (arith, sizes))
 
 -- the opcode byte and the size tell what stands there
 module _ (minimal : Bool) (s : List ℕ) (at : ℕ) (bytes : Bytes s) (size : ℕ) (e : size ≡ sizeSaid (walkSays minimal s at)) (g : 0 < size) where
@@ -88,11 +88,11 @@ module _ (minimal : Bool) (s : List ℕ) (at : ℕ) (bytes : Bytes s) (size : �
   abbrev code : ℕ
   code = getD s at 0
 
-  abbrev what : Sort → Walked
+  abbrev what : Sort → Item
   what k = walked k at code (size - (1 + lengthBytesAfter k))
 
   record Stands (k : Sort) : Type 0 where
-    is : walkSays minimal s at ≡ answers (what k)
+    is : walkSays minimal s at ≡ answers (found (what k))
     head : 1 + lengthBytesAfter k ≤ size
     fits : at + size ≤ length s
 
@@ -113,7 +113,7 @@ module _ (minimal : Bool) (s : List ℕ) (at : ℕ) (bytes : Bytes s) (size : �
       let o = plain-code code q in
       record { is = opcode-says minimal s at within-limit inside-script o; head = omega (arith, one-byte o); fits = omega (arith, one-byte o, inside-script) }
 
-  pub stands-is : walkSays minimal s at ≡ answers (what (sortOf code))
+  pub stands-is : walkSays minimal s at ≡ answers (found (what (sortOf code)))
   stands-is = stands (sortOf code) refl .is
 
   pub stands-head : 1 + lengthBytesAfter (sortOf code) ≤ size
@@ -138,9 +138,35 @@ module _ (minimal : Bool) (s : List ℕ) (at : ℕ) (bytes : Bytes s) (size : �
 module _ (minimal : Bool) (s : List ℕ) (at : ℕ) (z : sizeSaid (walkSays minimal s at) ≡ 0) where
   stopped : (a : Said Walked) → walkSays minimal s at ≡ a → walkFrom minimal s at ≡ stop a
   stopped (answers end) e = turn minimal s at (sym e) refl
-  stopped (answers (opcode place c)) e = absurd (omega (arith, z, ap sizeSaid e))
-  stopped (answers (push place form body len)) e = absurd (omega (arith, z, ap sizeSaid e))
+  stopped (answers (found (opcode place c))) e = absurd (omega (arith, z, ap sizeSaid e))
+  stopped (answers (found (push place form body len))) e = absurd (omega (arith, z, ap sizeSaid e))
   stopped (refuses number values) e = turn minimal s at (sym e) refl
 
   pub stops : walkFrom minimal s at ≡ stop (walkSays minimal s at)
   stops = stopped (walkSays minimal s at) refl
+
+-- what is said of the size: the call's refusal, or its size
+module _ (minimal : Bool) (s : List ℕ) (at : ℕ) where
+  abbrev there : Said Walked
+  there = walkSays minimal s at
+
+  pub says-size : {a : Said Walked} → there ≡ a → unless a (answers (sizeSaid a)) ≡ sizeSays minimal s at
+  unfolding sizeSays
+  says-size e = ap (λ (a : Said Walked). unless a (answers (sizeSaid a))) (sym e)
+
+  -- where a size is told the call is not refused
+  pub size-told : {A : Type 0} {n : ℕ} (said : Said A) → answers n ≡ sizeSays minimal s at → unless there said ≡ said
+  unfolding sizeSays
+  size-told {n = n} said e = go there e
+    where
+      go : (a : Said Walked) → answers n ≡ unless a (answers (sizeSaid a)) → unless a said ≡ said
+      go (answers w) e = refl
+      go (refuses number values) e = cc
+
+  pub size-refused : {number : ℕ} {values : List ℕ} → refuses number values ≡ sizeSays minimal s at → there ≡ refuses number values
+  unfolding sizeSays
+  size-refused {number} {values} e = go there e
+    where
+      go : (a : Said Walked) → refuses number values ≡ unless a (answers (sizeSaid a)) → a ≡ refuses number values
+      go (answers w) e = cc
+      go (refuses number values) e = cc

@@ -21,6 +21,7 @@ use Rattle.script.specs.Script.{ScriptOp, fails, reads, assign, sized, o
 use Rattle.script.specs.Walk.{
   Walked,
   end,
+  found,
   opcode,
   push,
   walked,
@@ -33,7 +34,7 @@ use Rattle.script.specs.Walk.{
   moved,
   nextAt,
 }
-use Rattle.script.specs.Instruction.{Bytes, most, wasteful}
+use Rattle.script.specs.Instruction.{Bytes, mostStated, wasteful}
 use Rattle.script.specs.Instruction as instruction
 use Rattle.script.proofs.Little.{le-below}
 use Rattle.script.proofs.Minimal.{IsOf, minimal-same}
@@ -194,7 +195,7 @@ module _ (s : List ℕ) (at : ℕ) (form : PushForm) (k : sortOf (getD s at 0) �
   stated-direct pushdata4 e = cc
 
   -- no form states more than it can
-  pub stated-most : Bytes s → (f : PushForm) → IsOf f (getD s at 0) → stated (lengthBytes f) s at ≤ most f
+  pub stated-most : Bytes s → (f : PushForm) → IsOf f (getD s at 0) → stated (lengthBytes f) s at ≤ mostStated f
   unfolding stated
   stated-most b direct o = omega arith
   stated-most b pushdata1 o = omega (arith, le-below s b 1 (at + 1))
@@ -215,7 +216,7 @@ module _ (s : List ℕ) (at : ℕ) (form : PushForm) (k : sortOf (getD s at 0) �
       pub verdict : walkSays minimal s at
           ≡ (if minimal && shortForm form s start says then refuses 2 (at ∷ [])
           else if ltb (length s - start) says then refuses 3 (at ∷ [])
-          else answers (push at form start says))
+          else answers (found (push at form start says)))
       unfolding assign
       verdict =
           inside minimal s at l h
@@ -242,7 +243,7 @@ few pushdata1 = omega arith
 few pushdata2 = omega arith
 few pushdata4 = omega arith
 
-pub opcode-says : (minimal : Bool) (s : List ℕ) (at : ℕ) → length s ≤ limit → at < length s → 78 < getD s at 0 → walkSays minimal s at ≡ answers (opcode at (getD s at 0))
+pub opcode-says : (minimal : Bool) (s : List ℕ) (at : ℕ) → length s ≤ limit → at < length s → 78 < getD s at 0 → walkSays minimal s at ≡ answers (found (opcode at (getD s at 0)))
 unfolding notMinimal
 opcode-says minimal s at l h o =
     inside minimal s at l h ∙ rw (opcode-read s at h o, lt-leb (getD s at 0) 78 o, and-false, opcode-walked (getD s at 0) at 0 o)
@@ -265,7 +266,7 @@ module _ (minimal : Bool) (s : List ℕ) (at : ℕ) (form : PushForm) (sort-of :
     body-says : walkSays minimal s at
         ≡ (if tooShort minimal form s (at + 1 + k) n then refuses 2 (at ∷ [])
         else if ltb (length s - (at + 1 + k)) n then refuses 3 (at ∷ [])
-        else answers (push at form (at + 1 + k) n))
+        else answers (found (push at form (at + 1 + k) n)))
     unfolding tooShort
     body-says = rw (n-is, k-is) (verdict s at form sort-of minimal bytes l h (rw k-is at there))
 
@@ -275,5 +276,5 @@ module _ (minimal : Bool) (s : List ℕ) (at : ℕ) (form : PushForm) (sort-of :
     pub says-body-cut : tooShort minimal form s (at + 1 + k) n ≡ false → length s - (at + 1 + k) < n → Right (refuses 3 (at ∷ [])) (length s)
     says-body-cut e c = settles minimal s at _ _ (body-says ∙ rw (e, lt-ltb _ _ c)) refl
 
-    pub says-push : tooShort minimal form s (at + 1 + k) n ≡ false → n ≤ length s - (at + 1 + k) → Right (answers (push at form (at + 1 + k) n)) (at + 1 + k + n)
+    pub says-push : tooShort minimal form s (at + 1 + k) n ≡ false → n ≤ length s - (at + 1 + k) → Right (answers (found (push at form (at + 1 + k) n))) (at + 1 + k + n)
     says-push e w = settles minimal s at _ _ (body-says ∙ rw (e, le-ltb _ _ w)) (omega arith)

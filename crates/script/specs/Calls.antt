@@ -5,7 +5,7 @@ use mathlib.Core.List.{List, [], _∷_, _++_}
 use Prim.Native.Nat.{ℕ, zero, suc, _<_}
 use lib.ListN.{take, drop}
 use Rattle.laws.specs.Said.{Said, answers, refuses}
-use Rattle.script.specs.Walk.{Walked, end, walkSays, nextAt}
+use Rattle.script.specs.Walk.{Item, Walked, end, found, walkSays, nextAt}
 use Rattle.script.specs.Walk as walk
 use Rattle.script.specs.Instruction.{Instruction, opcode, push, codeOf, dataOf}
 
@@ -18,11 +18,15 @@ position minimal s (suc n) = nextAt minimal s (position minimal s n)
 abbrev pub call : Bool → List ℕ → ℕ → Said Walked
 call minimal s n = walkSays minimal s (position minimal s n)
 
--- the instruction that an answer hands out, its body as the script's own bytes
+-- an instruction of the walk, its body as the script's own bytes
+abbrev pub instructionOf : List ℕ → Item → Instruction
+instructionOf s (walk.opcode place code) = opcode code
+instructionOf s (walk.push place form body len) = push form (take len (drop body s))
+
+-- what an answer hands out
 abbrev pub given : List ℕ → Said Walked → List Instruction
 given s (answers end) = []
-given s (answers (walk.opcode place code)) = opcode code ∷ []
-given s (answers (walk.push place form body len)) = push form (take len (drop body s)) ∷ []
+given s (answers (found i)) = instructionOf s i ∷ []
 given s (refuses number values) = []
 
 -- the instructions that the first n calls hand out

@@ -5,6 +5,7 @@ use mathlib.Core.List.{List, [], _∷_, _++_}
 use Prim.Native.Nat.{ℕ, zero, suc, _+_, _/_, _%_, _≤_, _<_}
 use lib.Dec.{ltb, leb, eqb}
 use lib.ListN.{length, getD, take, drop}
+pub use Rattle.laws.specs.Bytes.{Bytes}
 use Rattle.opcodes.specs.Opcode.{PushForm, direct, pushdata1, pushdata2, pushdata4, lengthBytes}
 
 -- 'An instruction is an opcode byte above 78, or a push form with a body'
@@ -13,20 +14,16 @@ pub data Instruction : Type 0 where
   push : PushForm → List ℕ → Instruction
 
 -- '.. whose length that form can state (direct: 0 to 75; else what 1, 2 or 4 length bytes hold)'
-abbrev pub most : PushForm → ℕ
-most direct = 75
-most pushdata1 = 0xff
-most pushdata2 = 0xffff
-most pushdata4 = 0xffff_ffff
-
--- each element is a byte; past the end `getD` gives 0
-abbrev pub Bytes : List ℕ → Type 0
-Bytes s = (i : ℕ) → getD s i 0 < 256
+abbrev pub mostStated : PushForm → ℕ
+mostStated direct = 75
+mostStated pushdata1 = 0xff
+mostStated pushdata2 = 0xffff
+mostStated pushdata4 = 0xffff_ffff
 
 -- an opcode byte above 78, or a body of bytes that its form can state
 abbrev pub Stands : Instruction → Type 0
 Stands (opcode code) = (78 < code) × (code < 256)
-Stands (push form body) = (length body ≤ most form) × Bytes body
+Stands (push form body) = (length body ≤ mostStated form) × Bytes body
 
 -- the opcode byte of a push: 0 to 75 is the length itself
 abbrev pub opcodeOf : PushForm → ℕ → ℕ

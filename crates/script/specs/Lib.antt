@@ -4,3 +4,4 @@ pub mod Instruction
 pub mod Calls
 pub mod Run
 pub mod Steps
+pub mod Demand

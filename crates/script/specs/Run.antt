@@ -4,18 +4,17 @@ use mathlib.Core.List.{List, [], _∷_}
 use Prim.Native.Nat.{ℕ, zero, suc, _-_}
 use lib.ListN.{length}
 use Rattle.laws.specs.Said.{Said, answers, refuses}
-use Rattle.script.specs.Walk.{Walked, end, opcode, push, walkSays, nextAt}
+use Rattle.script.specs.Walk.{Item, Walked, end, found, walkSays, nextAt}
 
 -- an instruction and the walk after it, or the answer that ends it
 pub data Run : Type 0 where
   stop : Said Walked → Run
-  item : Walked → Run → Run
+  item : Item → Run → Run
 
 -- an instruction, and the walk after it; end and refusals stop
 abbrev pub continue : Said Walked → Run → Run
 continue (answers end) rest = stop (answers end)
-continue (answers (opcode place code)) rest = item (opcode place code) rest
-continue (answers (push place form body len)) rest = item (push place form body len) rest
+continue (answers (found i)) rest = item i rest
 continue (refuses number values) rest = stop (refuses number values)
 
 -- so many calls from p on, each given the cursor that the one before gave back
@@ -28,16 +27,16 @@ unfoldable pub walkFrom : Bool → List ℕ → ℕ → Run
 walkFrom minimal s p = walkFor (suc (length s - p)) minimal s p
 
 -- its instructions
-abbrev pub items : Run → List Walked
+abbrev pub items : Run → List Item
 items (stop a) = []
-items (item w r) = w ∷ items r
+items (item i r) = i ∷ items r
 
 -- the answer that ends it
 abbrev pub ending : Run → Said Walked
 ending (stop a) = a
-ending (item w r) = ending r
+ending (item i r) = ending r
 
 -- what a loop over the walk makes of its state
-abbrev pub fold {ℓ} : {S : Type ℓ} → (S → Walked → S) → S → Run → S × Said Walked
+abbrev pub fold {ℓ} : {S : Type ℓ} → (S → Item → S) → S → Run → S × Said Walked
 fold f x (stop a) = (x, a)
-fold f x (item w r) = fold f (f x w) r
+fold f x (item i r) = fold f (f x i) r

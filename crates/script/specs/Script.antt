@@ -32,7 +32,8 @@ operand opcode s pc =
     (if ltb opcode OP-PUSHDATA1 then assign opcode opcode s pc
     else if eqb opcode OP-PUSHDATA1 then sized 1 opcode s pc
     else if eqb opcode OP-PUSHDATA2 then sized 2 opcode s pc
-    else sized 4 opcode s pc)
+    else if eqb opcode OP-PUSHDATA4 then sized 4 opcode s pc
+    else assign opcode 0 s pc)
     else reads opcode [] pc
 
 -- GetScriptOp

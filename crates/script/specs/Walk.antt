@@ -5,21 +5,25 @@ use Prim.Native.Nat.{ℕ, _+_}
 use lib.Dec.{ltb, leb, eqb}
 use lib.ListN.{length, getD}
 use Rattle.laws.specs.Choice.{if_then_else_}
-use Rattle.laws.specs.Said.{Said, answers, refuses}
+use Rattle.laws.specs.Said.{Said, answers, refuses, unless}
 use Rattle.refusal.specs.Refusal.{withinLimit}
 use Rattle.opcodes.specs.Opcode.{PushForm, direct, pushdata1, pushdata2, pushdata4, lengthBytes, Sort, sortOf}
 use Rattle.opcodes.specs.Opcode as sort
 use Rattle.script.specs.Script.{ScriptOp, fails, reads, readLE, getScriptOp, checkMinimalPush}
 use Rattle.opcodes.specs.Core.{OP-PUSHDATA4}
 
--- 'The walk': end; an opcode with its place; a push with place, form, body place and body length
+-- 'The walk': an opcode with its place; a push with place, form, body place and body length
+pub data Item : Type 0 where
+  opcode : (place code : ℕ) → Item
+  push : (place : ℕ) (form : PushForm) (body len : ℕ) → Item
+
+-- .. or the end
 pub data Walked : Type 0 where
   end : Walked
-  opcode : (place code : ℕ) → Walked
-  push : (place : ℕ) (form : PushForm) (body len : ℕ) → Walked
+  found : Item → Walked
 
 -- what GetScriptOp has read at a place: a push's body follows its opcode and length bytes
-abbrev pub walked : Sort → ℕ → ℕ → ℕ → Walked
+abbrev pub walked : Sort → ℕ → ℕ → ℕ → Item
 walked (sort.push form) place code len = push place form (place + 1 + lengthBytes form) len
 walked sort.number place code len = opcode place code
 walked sort.plain place code len = opcode place code
@@ -49,7 +53,7 @@ cutNotMinimal s place = cutForm (sortOf (getD s place 0)) s place
 abbrev pub judged : Bool → List ℕ → ℕ → ScriptOp → Said Walked
 judged minimal s place fails = if minimal && cutNotMinimal s place then refuses 2 (place ∷ []) else refuses 3 (place ∷ [])
 judged minimal s place (reads code vch pc) =
-    if minimal && notMinimal code vch then refuses 2 (place ∷ []) else answers (walked (sortOf code) place code (length vch))
+    if minimal && notMinimal code vch then refuses 2 (place ∷ []) else answers (found (walked (sortOf code) place code (length vch)))
 
 -- what a call says at a place: refusals 1 and 8 first
 unfoldable pub walkSays : Bool → List ℕ → ℕ → Said Walked
@@ -59,20 +63,30 @@ walkSays minimal s at =
     else if eqb (length s) at then answers end
     else judged minimal s at (getScriptOp s at))
 
+-- where an instruction starts
+abbrev pub placeOf : Item → ℕ
+placeOf (opcode place code) = place
+placeOf (push place form body len) = place
+
 -- 'Size': 1 for an opcode; 1 plus length bytes plus body for a push
-abbrev pub sizeOf : Walked → ℕ
-sizeOf end = 0
+abbrev pub sizeOf : Item → ℕ
 sizeOf (opcode place code) = 1
 sizeOf (push place form body len) = 1 + lengthBytes form + len
 
 -- .. and 0 where nothing stands: at the end, and where a call refuses
 abbrev pub sizeSaid : Said Walked → ℕ
-sizeSaid (answers w) = sizeOf w
+sizeSaid (answers end) = 0
+sizeSaid (answers (found i)) = sizeOf i
 sizeSaid (refuses number values) = 0
+
+-- what is said of the size at a place: the call's refusal, or the size
+unfoldable pub sizeSays : Bool → List ℕ → ℕ → Said ℕ
+sizeSays minimal s at = unless (walkSays minimal s at) (answers (sizeSaid (walkSays minimal s at)))
 
 -- the cursor after a call: past the instruction; after 2 and 3 at the script's end; else unchanged
 abbrev pub moved : Said Walked → List ℕ → ℕ → ℕ
-moved (answers w) s at = at + sizeOf w
+moved (answers end) s at = at
+moved (answers (found i)) s at = at + sizeOf i
 moved (refuses number values) s at = if eqb number 2 || eqb number 3 then length s else at
 
 -- .. after the call at a place

@@ -6,16 +6,16 @@ use borrow.Author.Tests.{lt-ltb, le-ltb}
 use lib.ListN.{length, set}
 use Rattle.laws.specs.Said.{Said}
 use Rattle.script.specs.Walk.{Walked}
-use Rattle.hand.specs.Handed.{Handed, handed, steps, advances, movedTo}
+use Rattle.hand.specs.Handed.{Handed, handed, SHORT-VALUES, steps, advances, movedTo}
 use Rattle.laws.proofs.Stored.{stored-front}
 use Rattle.hand.proofs.Handing.{steps-short}
 
 module _ (next : ℕ) (said : Said Walked) (cursor old : List ℕ) where
-  pub no-cursor : length cursor < 1 → (handed 7 old ≡ advances cursor next said old) × (cursor ≡ movedTo next cursor old)
+  pub no-cursor : length cursor < 1 → (handed SHORT-VALUES old ≡ advances cursor next said old) × (cursor ≡ movedTo next cursor old)
   unfolding advances movedTo
   no-cursor h = rw (lt-ltb (length cursor) 1 h) (refl, refl)
 
-  pub no-values : 1 ≤ length cursor → length old < 6 → (handed 7 old ≡ advances cursor next said old) × (cursor ≡ movedTo next cursor old)
+  pub no-values : 1 ≤ length cursor → length old < 6 → (handed SHORT-VALUES old ≡ advances cursor next said old) × (cursor ≡ movedTo next cursor old)
   unfolding advances movedTo
   no-values h k = rw (le-ltb (length cursor) 1 h, lt-ltb (length old) 6 k) (steps-short next said old k, refl)
 

@@ -1,5 +1,5 @@
 // The walk by numbers: where it stands goes in, and comes back with what stands there.
-use hand::NO_ROOM;
+use hand::SHORT_VALUES;
 use opcodes::Class;
 use walk::Cursor;
 use walk::Found;
@@ -12,7 +12,7 @@ ghost use lib.Seq.{sets};
 ghost use lib.ListN.{length, getD};
 ghost use Rattle.refusal.specs.Refusal.{limit};
 ghost use Rattle.opcodes.specs.Opcode.{sortOf, lengthBytesAfter};
-ghost use Rattle.script.specs.Walk.{walked, walkSays, nextAt};
+ghost use Rattle.script.specs.Walk.{found, walked, walkSays, nextAt};
 ghost use Rattle.walk.specs.Part.{bodyPlace, bodyLen};
 ghost use Rattle.walk.specs.Answer.{isMinimal, saidFound};
 ghost use Rattle.hand.specs.Handed.{handed, gives, steps, advances, movedTo, walkedRow, minimalOf};
@@ -56,7 +56,7 @@ fn step(answer: Stepped, values: &mut [u64]) -> u32
     ensures { λ r. ⌜ handed r (now (values .exit)) ≡ steps (answer .next .at) (saidFound (answer .found)) (now (values .entry)) ⌝ }
 {
     if values.len() < STEP_VALUES {
-        return NO_ROOM;
+        return SHORT_VALUES;
     }
     let next = answer.next;
     let found = answer.found;
@@ -93,7 +93,7 @@ fn step(answer: Stepped, values: &mut [u64]) -> u32
 // from C costs no more than its stores.
 fn whole(at: usize, size: usize, code: u8, values: &mut [u64]) -> u32
     requires { ⌜ (6 ≤ length (now values)) × (1 + lengthBytesAfter (sortOf code) ≤ size) × (at + size ≤ limit) ⌝ }
-    ensures { λ r. ⌜ (r ≡ 0) × (now (values .exit) ≡ sets (now (values .entry)) 0 ((at + size) ∷ walkedRow (walked (sortOf code) at code (size - (1 + lengthBytesAfter (sortOf code)))))) ⌝ }
+    ensures { λ r. ⌜ (r ≡ 0) × (now (values .exit) ≡ sets (now (values .entry)) 0 ((at + size) ∷ walkedRow (found (walked (sortOf code) at code (size - (1 + lengthBytesAfter (sortOf code))))))) ⌝ }
 {
     let to = (at + size) as u64;
     let class = opcodes::classify(code);
@@ -120,10 +120,10 @@ pub fn next(script: &[u8], at: usize, mode: u32, values: &mut [u64]) -> u32
     ensures { λ r. ⌜ handed r (now (values .exit)) ≡ steps (nextAt (minimalOf mode) (now (script .entry)) at) (walkSays (minimalOf mode) (now (script .entry)) at) (now (values .entry)) ⌝ }
 {
     if values.len() < STEP_VALUES {
-        return NO_ROOM;
+        return SHORT_VALUES;
     }
     let mode = mode_of(mode);
-    let size = Cursor { at }.size(script, mode);
+    let size = walk::whole_size(script, at, mode);
     if size == 0 {
         let stepped = Cursor { at }.next(script, mode);
         return step(stepped, values);
@@ -157,18 +157,30 @@ pub fn body(script: &[u8], at: usize, mode: u32, values: &mut [u64]) -> u32
     body_of(answer, values)
 }
 
+// What stands at a place, and the cursor for the next call: a cursor at that place, lent to the walk and moved on.
+fn moved_on(at: usize, script: &[u8], mode: Mode) -> Stepped
+    ensures { λ r. ⌜ (saidFound (r .found) ≡ walkSays (isMinimal mode) (now (script .entry)) at) × (r .next .at ≡ nextAt (isMinimal mode) (now (script .entry)) at) ⌝ }
+{
+    let mut cursor = Cursor { at };
+    let found = walk::advance(&mut cursor, script, mode);
+    Stepped {
+        found,
+        next: cursor,
+    }
+}
+
 // What stands at a lent place, which is then moved on.
 pub fn advance(cursor: &mut [u64], script: &[u8], mode: u32, values: &mut [u64]) -> u32
     ensures { λ r. ⌜ (handed r (now (values .exit)) ≡ advances (now (cursor .entry)) (nextAt (minimalOf mode) (now (script .entry)) (getD (now (cursor .entry)) 0 0)) (walkSays (minimalOf mode) (now (script .entry)) (getD (now (cursor .entry)) 0 0)) (now (values .entry))) × (now (cursor .exit) ≡ movedTo (nextAt (minimalOf mode) (now (script .entry)) (getD (now (cursor .entry)) 0 0)) (now (cursor .entry)) (now (values .entry))) ⌝ }
 {
     if cursor.len() < 1 {
-        return NO_ROOM;
+        return SHORT_VALUES;
     }
     if values.len() < STEP_VALUES {
-        return NO_ROOM;
+        return SHORT_VALUES;
     }
     let at = cursor[0] as usize;
-    let stepped = Cursor { at }.next(script, mode_of(mode));
+    let stepped = moved_on(at, script, mode_of(mode));
     let next = stepped.next;
     cursor[0] = next.at as u64;
     step(stepped, values)

@@ -1,9 +1,11 @@
 -- The limit is tested once, around the answer that a test gave. Assumes nothing.
-use mathlib.Core.Path.{_≡_, ap, _∙_}
+use mathlib.Core.Path.{_≡_, sym, ap, _∙_}
+use mathlib.Core.Bool.{Bool}
 use mathlib.Core.List.{List, []}
 use Prim.Native.Nat.{ℕ, _≤_, _<_}
 use borrow.Author.Tests.{lt-ltb, le-ltb}
 use lib.ListN.{length}
+use Rattle.laws.specs.Choice.{if_then_else_}
 use Rattle.laws.specs.Said.{Said, answers, refuses}
 use Rattle.refusal.specs.Refusal.{limit}
 use Rattle.templates.specs.Says.{judges}
@@ -12,7 +14,7 @@ module _ {A : Type 0} (f : List ℕ → A) (s : List ℕ) where
   -- over the limit
   pub too-long : limit < length s → refuses 1 [] ≡ judges f s
   unfolding judges
-  too-long h = rw (lt-ltb limit (length s) h)
+  too-long h = sym (ap (λ (over : Bool). if over then refuses 1 [] else answers (f s)) (lt-ltb limit (length s) h))
 
   -- within it
   pub judges-within : length s ≤ limit → judges f s ≡ answers (f s)

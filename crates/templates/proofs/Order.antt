@@ -4,7 +4,7 @@ use mathlib.Core.Bool.{Bool, true, false, not, _&&_}
 use mathlib.Core.List.{List, [], _∷_, _++_}
 use Prim.Native.Nat.{ℕ}
 use Rattle.laws.specs.Choice.{if_then_else_}
-use Rattle.templates.specs.Kind.{Kind, p2pkh, p2sh, p2wpkh, p2wsh, p2tr, p2a, witness, p2pk, multisig, opreturn, other, fits, kinds, firstThatFits, kindOf}
+use Rattle.templates.specs.Kind.{Kind, p2pkh, p2sh, p2wpkh, p2wsh, p2tr, p2a, witness, p2pk, multisig, opreturn, other, fits, kinds, firstThatFits, kindOf, noneFits, FirstFit}
 
 -- the tests down to this list have failed
 pub data Reached (s : List ℕ) : List Kind → Type 0 where
@@ -19,11 +19,6 @@ same {s} (over {k} {ks} r e) = ap (λ b. if b then k else firstThatFits ks s) (s
 -- the next one fits
 pub found : {s : List ℕ} {k : Kind} {ks : List Kind} → Reached s (k ∷ ks) → fits k s ≡ true → k ≡ kindOf s
 found {s} {k} {ks} r e = ap (λ b. if b then k else firstThatFits ks s) (sym e) ∙ same r
-
--- none of these fits
-abbrev pub noneFits : List Kind → List ℕ → Bool
-noneFits [] s = true
-noneFits (k ∷ ks) s = not (fits k s) && noneFits ks s
 
 unless : {k x : Kind} (j : Kind) (b c : Bool) → (c ≡ true → x ≡ k) → (not b && c) ≡ true → (if b then j else x) ≡ k
 unless j true c f n = cc
@@ -40,25 +35,17 @@ pub kind-if : (s : List ℕ) (before : List Kind) (k : Kind) (after : List Kind)
 unfolding kindOf
 kind-if s before k after e n f = ap (λ ks. firstThatFits ks s) (sym e) ∙ first-at s before k after f n
 
--- where a kind stands in a list of kinds: what is before it, none of which fits, and what is after it
-pub record Stands (s : List ℕ) (k : Kind) (ks : List Kind) : Type 0 where
-  pub before : List Kind
-  pub after : List Kind
-  pub whole : before ++ (k ∷ after) ≡ ks
-  pub none-before : noneFits before s ≡ true
-  pub it-fits : fits k s ≡ true
-
-stands : (s : List ℕ) (ks : List Kind) → Stands s (firstThatFits (ks ++ (other ∷ [])) s) (ks ++ (other ∷ []))
+stands : (s : List ℕ) (ks : List Kind) → FirstFit s (firstThatFits (ks ++ (other ∷ [])) s) (ks ++ (other ∷ []))
 stands s [] = record { before = []; after = []; whole = refl; none-before = refl; it-fits = refl }
 stands s (k ∷ ks) = pick (fits k s) refl (stands s ks)
   where
-    pick : (b : Bool) → fits k s ≡ b → Stands s (firstThatFits (ks ++ (other ∷ [])) s) (ks ++ (other ∷ []))
-        → Stands s (if b then k else firstThatFits (ks ++ (other ∷ [])) s) (k ∷ (ks ++ (other ∷ [])))
+    pick : (b : Bool) → fits k s ≡ b → FirstFit s (firstThatFits (ks ++ (other ∷ [])) s) (ks ++ (other ∷ []))
+        → FirstFit s (if b then k else firstThatFits (ks ++ (other ∷ [])) s) (k ∷ (ks ++ (other ∷ [])))
     pick true e r = record { before = []; after = ks ++ (other ∷ []); whole = refl; none-before = refl; it-fits = e }
     pick false e r =
         record { before = k ∷ r .before; after = r .after; whole = ap (λ l. k ∷ l) (r .whole); none-before = rw e (r .none-before); it-fits = r .it-fits }
 
 -- a script's kind fits, and none before it does
-pub kind-fits : (s : List ℕ) → Stands s (kindOf s) kinds
+pub kind-fits : (s : List ℕ) → FirstFit s (kindOf s) kinds
 unfolding kindOf
 kind-fits s = stands s (p2pkh ∷ p2sh ∷ p2wpkh ∷ p2wsh ∷ p2tr ∷ p2a ∷ witness ∷ p2pk ∷ multisig ∷ opreturn ∷ [])

@@ -12,7 +12,7 @@ use lib.ListN.{length, getD}
 use Rattle.laws.specs.Said.{Said, answers, refuses}
 use Rattle.laws.proofs.Test.{by-test}
 use Rattle.refusal.specs.Refusal.{limit}
-use Rattle.script.specs.Walk.{Walked, end, opcode, push, walkSays, nextAt}
+use Rattle.script.specs.Walk.{Walked, end, found, opcode, push, walkSays, nextAt}
 use Rattle.script.specs.Run.{continue, walkFor, walkFrom, items, ending}
 use Rattle.script.proofs.Good.{Good, good}
 use Rattle.fixed.specs.Fixed.{isKeyOf, isPayToPubkey}
@@ -63,8 +63,8 @@ module _ (s : List ℕ) where
           → ((o : Option Stretch) → Within o → Within (lastBody o (items (walkFor n false s (nextAt false s p)))))
           → Within (lastBody before (items (continue a (walkFor n false s (nextAt false s p)))))
       go (answers end) g rest = h
-      go (answers (opcode place code)) g rest = rest none tt
-      go (answers (push place form body len)) g rest = rest (some (stretch body len)) (g .fits)
+      go (answers (found (opcode place code))) g rest = rest none tt
+      go (answers (found (push place form body len))) g rest = rest (some (stretch body len)) (g .fits)
       go (refuses number values) g rest = h
 
   pub redeem-inside : Inside (judges redeemScript s)

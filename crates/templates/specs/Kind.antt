@@ -1,6 +1,7 @@
 -- 'Kind, first that fits'. Assumes nothing.
-use mathlib.Core.Bool.{Bool, true}
-use mathlib.Core.List.{List, [], _∷_}
+use mathlib.Core.Path.{_≡_}
+use mathlib.Core.Bool.{Bool, true, not, _&&_}
+use mathlib.Core.List.{List, [], _∷_, _++_}
 use Prim.Native.Nat.{ℕ}
 use Rattle.laws.specs.Choice.{if_then_else_}
 use Rattle.fixed.specs.Fixed.{
@@ -56,3 +57,16 @@ firstThatFits (k ∷ ks) s = if fits k s then k else firstThatFits ks s
 -- 'Kind, first that fits: p2pkh, p2sh, p2wpkh, p2wsh, p2tr, p2a, witness, p2pk, multisig, opreturn, other'
 unfoldable pub kindOf : List ℕ → Kind
 kindOf s = firstThatFits kinds s
+
+-- none of these fits
+abbrev pub noneFits : List Kind → List ℕ → Bool
+noneFits [] s = true
+noneFits (k ∷ ks) s = not (fits k s) && noneFits ks s
+
+-- where a kind that fits stands in a list of kinds: what is before it, none of which fits, and what is after it
+pub record FirstFit (s : List ℕ) (k : Kind) (ks : List Kind) : Type 0 where
+  pub before : List Kind
+  pub after : List Kind
+  pub whole : before ++ (k ∷ after) ≡ ks
+  pub none-before : noneFits before s ≡ true
+  pub it-fits : fits k s ≡ true

@@ -30,11 +30,11 @@ lenOf (answers (some (stretch start len))) = len
 lenOf (refuses number values) = 0
 
 -- a count that was written
-abbrev pub written : Said ℕ → Said (Option ℕ)
-written (answers n) = answers (some n)
-written (refuses number values) = refuses number values
+abbrev pub asSome : Said ℕ → Said (Option ℕ)
+asSome (answers n) = answers (some n)
+asSome (refuses number values) = refuses number values
 
 -- 'p2wpkh_script_code': refusal 1; nothing for all but P2WPKH; refusal 7 last
 unfoldable pub codeSays : List ℕ → ℕ → Said (Option ℕ)
 codeSays s room =
-    withinLimit s (if isPayToWitnessPubkeyHash s then written (writes (scriptCode s) room) else answers none)
+    withinLimit s (if isPayToWitnessPubkeyHash s then asSome (writes (scriptCode s) room) else answers none)

@@ -15,7 +15,7 @@ ghost use Prim.Native.Nat.{_+_, _≤_};
 ghost use lib.ListN.{length, drop};
 ghost use Rattle.laws.specs.Buffer.{after};
 ghost use Rattle.walk.specs.Part.{Part};
-ghost use Rattle.fixed.specs.Fixed.{isPayToPubkeyHash, witnessVersion, codeOf, scriptCode};
+ghost use Rattle.fixed.specs.Fixed.{isPayToPubkeyHash, witnessVersion, codeFor, scriptCode};
 ghost use Rattle.walked.specs.Walked.{redeemScript};
 ghost use Rattle.templates.specs.Kind.{kindOf};
 ghost use Rattle.templates.specs.Says.{judges, pubkeyOf, startOf, lenOf, codeSays};
@@ -151,7 +151,7 @@ pub fn redeem_part<'a>(script: &'a [u8]) -> &'a [u8]
 // Writes the script code of a P2WPKH script to the front of a buffer that has room for it: its hash, as pay to pubkey hash has it.
 fn write_script_code(script: &[u8], out: &mut [u8])
     requires { ⌜ (length (now script) ≡ 22) × (25 ≤ length (now out)) ⌝ }
-    ensures { λ _. ⌜ now (out .exit) ≡ codeOf (drop 2 (now (script .entry))) ++ drop 25 (now (out .entry)) ⌝ }
+    ensures { λ _. ⌜ now (out .exit) ≡ codeFor (drop 2 (now (script .entry))) ++ drop 25 (now (out .entry)) ⌝ }
 {
     out[0] = OP_DUP;
     out[1] = OP_HASH160;

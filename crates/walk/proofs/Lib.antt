@@ -1,3 +1,4 @@
 pub mod Turn
 pub mod Settled
 pub mod AdvanceSettled
+pub mod Chained

@@ -5,7 +5,8 @@ use mathlib.Core.List.{List}
 use Prim.Native.Nat.{ℕ}
 use denote.Ref.{RefT, now, ptr}
 use Rattle.laws.proofs.Settled.{settled, same-value}
-use Rattle.refusal.proofs.Same.{same-refusal}
+use Rattle.refusal.specs.declared.Counted.{Counted}
+use Rattle.refusal.proofs.Same.{same-refusal, same-count}
 use Rattle.opcodes.proofs.Same.{same-form}
 use Rattle.walk.specs.Answer.{saidFound}
 use Rattle.walk.specs.declared.Cursor.{Cursor}
@@ -15,6 +16,7 @@ use Rattle.walk.specs.declared.Stepped.{Stepped}
 use Rattle.walk.proofs.Cursor.new.Reads as new
 use Rattle.walk.proofs.Cursor.next.Reads as next
 use Rattle.walk.proofs.Cursor.size.Reads as size
+use Rattle.walk.proofs.whole_size.Reads as whole-size
 use Rattle.walk.proofs.part.body.Reads as body
 
 pub same-found : (a b : Found) → saidFound a ≡ saidFound b → a ≡ b
@@ -44,8 +46,11 @@ stepped found at = record { found = found; next = cursor at }
 pub new-settled : (κs : _) (a : _) (r t : Cursor) (s u : _) → new.Post κs a r s → new.Post κs a t u → r ≡ t
 new-settled κs a r t s u p q = ap cursor (same-value p q)
 
-pub size-settled : (κs : _) (a : _) (r t : ℕ) (s u : _) → size.Post κs a r s → size.Post κs a t u → r ≡ t
-size-settled κs a r t s u = same-value
+pub size-settled : (κs : _) (a : _) (r t : Counted) (s u : _) → size.Post κs a r s → size.Post κs a t u → r ≡ t
+size-settled κs a r t s u = settled same-count r t
+
+pub whole-size-settled : (κs : _) (a : _) (r t : ℕ) (s u : _) → whole-size.Post κs a r s → whole-size.Post κs a t u → r ≡ t
+whole-size-settled κs a r t s u = same-value
 
 pub next-settled : (κs : _) (a : _) (r t : Stepped) (s u : _) → next.Post κs a r s → next.Post κs a t u → r ≡ t
 next-settled κs a r t s u p q = ap₂ stepped (settled same-found (r .found) (t .found) (p .0) (q .0)) (same-value (p .1) (q .1))

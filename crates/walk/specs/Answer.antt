@@ -3,7 +3,7 @@ use mathlib.Core.Bool.{Bool, true, false}
 use Rattle.laws.specs.Said.{Said, answers}
 use Rattle.refusal.specs.Refusal.{saidRefusal}
 use Rattle.opcodes.specs.Opcode.{saidForm}
-use Rattle.script.specs.Walk.{Walked, end, opcode, push}
+use Rattle.script.specs.Walk.{Walked, end, found, opcode, push}
 use Rattle.walk.specs.declared.Mode.{Mode}
 use Rattle.walk.specs.declared.Mode.the-variants.{Plain, Minimal}
 use Rattle.walk.specs.declared.Found.{Found}
@@ -15,6 +15,6 @@ isMinimal Minimal = true
 
 abbrev pub saidFound : Found → Said Walked
 saidFound End = answers end
-saidFound (Opcode place code) = answers (opcode place code)
-saidFound (Push place form body len) = answers (push place (saidForm form) body len)
+saidFound (Opcode place code) = answers (found (opcode place code))
+saidFound (Push place form body len) = answers (found (push place (saidForm form) body len))
 saidFound (Refused r) = saidRefusal r

@@ -9,11 +9,13 @@ use opcodes::Form;
 pub use part::body;
 use push::push_at;
 use push::push_size;
+use refusal::Counted;
 use refusal::Refusal;
 ghost use mathlib.Core.Path.{_≡_};
 ghost use Prim.Native.Nat.{_+_, _<_};
 ghost use Rattle.refusal.specs.Refusal.{limit};
-ghost use Rattle.script.specs.Walk.{walkSays, nextAt, sizeSaid};
+ghost use Rattle.script.specs.Walk.{walkSays, nextAt, sizeSaid, sizeSays};
+ghost use Rattle.refusal.specs.Answer.{saidCount};
 ghost use Rattle.walk.specs.Answer.{saidFound, isMinimal};
 
 // Plain takes every whole push; Minimal refuses a push that has a shorter form.
@@ -60,26 +62,22 @@ impl Cursor {
         Cursor { at: 0 }
     }
 
-    // The size of the instruction at the cursor, in bytes; 0 at the end and where `next` refuses.
-    pub fn size(self, script: &[u8], mode: Mode) -> usize
-        ensures { λ r. ⌜ r ≡ sizeSaid (walkSays (isMinimal mode) (now (script .entry)) (self .at)) ⌝ }
+    // The size of the instruction at the cursor, in bytes; 0 at the end. Refused as `next` is.
+    pub fn size(self, script: &[u8], mode: Mode) -> Counted
+        ensures { λ r. ⌜ saidCount r ≡ sizeSays (isMinimal mode) (now (script .entry)) (self .at) ⌝ }
     {
-        let at = self.at;
-        let n = script.len();
-        if refusal::MAX_SCRIPT < n {
-            return 0;
-        }
-        if n < at {
-            return 0;
-        }
-        if n == at {
-            return 0;
-        }
-        let class = opcodes::classify(script[at]);
-        match class {
-            Class::Push(form) => push_size(script, at, form, mode),
-            Class::PushNum => 1,
-            Class::Ordinary => 1,
+        let stepped = self.next(script, mode);
+        let found = stepped.found;
+        match found {
+            Found::End => Counted::Count(0),
+            Found::Opcode { place: _, code: _ } => Counted::Count(1),
+            Found::Push {
+                place: _,
+                form,
+                body: _,
+                len,
+            } => Counted::Count(1 + opcodes::length_bytes(form) + len),
+            Found::Refused(why) => Counted::Refused(why),
         }
     }
 
@@ -125,5 +123,28 @@ fn opcode_at(at: usize, code: u8) -> Stepped
     Stepped {
         found: Found::Opcode { place: at, code },
         next: Cursor { at: at + 1 },
+    }
+}
+
+// The size of the instruction that stands whole at `at`, by the tests of `Cursor::next`; 0 where none does, at the end and where that step is refused. No
+// entry: a number alone, by which the loops of the crates above keep to registers. Who needs the reason for a 0 asks `Cursor::size`.
+pub fn whole_size(script: &[u8], at: usize, mode: Mode) -> usize
+    ensures { λ r. ⌜ r ≡ sizeSaid (walkSays (isMinimal mode) (now (script .entry)) at) ⌝ }
+{
+    let n = script.len();
+    if refusal::MAX_SCRIPT < n {
+        return 0;
+    }
+    if n < at {
+        return 0;
+    }
+    if n == at {
+        return 0;
+    }
+    let class = opcodes::classify(script[at]);
+    match class {
+        Class::Push(form) => push_size(script, at, form, mode),
+        Class::PushNum => 1,
+        Class::Ordinary => 1,
     }
 }

@@ -42,7 +42,7 @@ fn found_line(found: Found) {
     }
 }
 
-// One call: what is found, the next cursor, and the body's length as the second call hands it back.
+// One call: what is found, the next cursor, the body's length as the second call hands it back, and the size.
 fn step(script: &[u8], at: usize, mode: Mode) -> Cursor {
     let c = Cursor { at };
     let stepped = c.next(script, mode);
@@ -55,6 +55,8 @@ fn step(script: &[u8], at: usize, mode: Mode) -> Cursor {
     show::named(b"next", next.at);
     let part = walk::body(script, c, mode);
     show::named(b"part", part.len());
+    show::text(b" size");
+    show::counted(c.size(script, mode));
     show::line_end();
     next
 }
@@ -182,6 +184,19 @@ fn long_forms() {
     both(&data1[..77]);
 }
 
+// The longest bodies for which two of the length forms are too long, whole.
+fn wasteful_forms() {
+    let mut data1 = [7u8; 77];
+    data1[0] = 0x4c;
+    data1[1] = 75;
+    both(&data1);
+    let mut data2 = [7u8; 258];
+    data2[0] = 0x4d;
+    data2[1] = 255;
+    data2[2] = 0;
+    both(&data2);
+}
+
 fn whole_tables() {
     tables(b"\x51\x52\xae");
     tables(b"\x51\x01\x05\xae");
@@ -193,6 +208,7 @@ fn main() {
     one_byte();
     cut();
     long_forms();
+    wasteful_forms();
     whole_tables();
     long_opcodes();
     long_pushes();

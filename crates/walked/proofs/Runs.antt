@@ -6,7 +6,7 @@ use Prim.Native.Nat.{ℕ, _≤_, _<_}
 use borrow.Author.Tests.{le-leb, lt-leb}
 use lib.Dec.{leb}
 use Rattle.laws.specs.Said.{Said}
-use Rattle.opcodes.specs.Opcode.{numberOf}
+use Rattle.opcodes.specs.Opcode.{pushnumOf}
 use Rattle.script.specs.Walk.{Walked, opcode}
 use Rattle.script.specs.Run.{Run, stop, item}
 use Rattle.walked.specs.Walked.{pushOnlyRun, Stretch, redeemRun, pushes, afterPushes, agrees, checks, keysThen}
@@ -35,6 +35,6 @@ module _ (m : ℕ) (run : Run) where
 
   -- after the keys comes an opcode
   pub counted : {k place code : ℕ} {rest : Run} → pushes run ≡ k → k ≤ 255 → afterPushes run ≡ item (opcode place code) rest
-      → keysThen m run ≡ (agrees (numberOf code) k && checks rest && leb m k)
+      → keysThen m run ≡ (agrees (pushnumOf code) k && checks rest && leb m k)
   unfolding keysThen
   counted {k} e h a = rw (a, e, le-leb k 255 h)

@@ -10,7 +10,7 @@ ghost use mathlib.Core.Bool.{true, false};
 ghost use mathlib.Core.Path.{_≡_};
 ghost use lib.ListN.{getD};
 ghost use Rattle.laws.specs.Said.{answers};
-ghost use Rattle.opcodes.specs.Opcode.{numberOf};
+ghost use Rattle.opcodes.specs.Opcode.{pushnumOf};
 ghost use Rattle.script.specs.Run.{walkFrom};
 ghost use Rattle.walked.specs.Walked.{isPushOnly, redeemScript, isMultisig, agrees, isEnd, checks, numberThen, keysThen};
 ghost use Rattle.walked.specs.Answer.{saidPlace};
@@ -92,7 +92,7 @@ pub fn last_push(s: &[u8]) -> Place
 
 // Whether a number opcode names this count; any other opcode may stand there.
 fn agreeing(code: u8, count: usize) -> bool
-    ensures { λ r. ⌜ r ≡ agrees (numberOf code) count ⌝ }
+    ensures { λ r. ⌜ r ≡ agrees (pushnumOf code) count ⌝ }
 {
     let number = opcodes::decode_pushnum(code);
     match number {
@@ -208,7 +208,7 @@ fn walks_multisig(s: &[u8]) -> bool
 
 // Whether a number opcode stands first.
 fn starts_with_number(s: &[u8]) -> bool
-    ensures { λ r. ⌜ r ≡ numberThen (λ m. true) (numberOf (getD (now (s .entry)) 0 0)) ⌝ }
+    ensures { λ r. ⌜ r ≡ numberThen (λ m. true) (pushnumOf (getD (now (s .entry)) 0 0)) ⌝ }
 {
     if s.len() == 0 {
         return false;

@@ -1,18 +1,21 @@
--- What is built is a witness script of that version and program. Assumes nothing.
-use mathlib.Core.Path.{_≡_, refl, sym, ap}
-use mathlib.Core.Bool.{true, false, _&&_, _||_}
-use mathlib.Core.List.{List}
+-- What is built is a witness script of that version and program, and every witness script is what is built for its own. Assumes nothing.
+use mathlib.Core.Path.{_≡_, refl, sym, ap, ap₂}
+use mathlib.Core.Logic.{_↔_, ⊎-elim}
+use mathlib.Core.Bool.{Bool, true, false, _&&_, _||_}
+use mathlib.Core.List.{List, [], _∷_}
 use mathlib.Core.Option.{some}
 use Prim.Native.Nat.{ℕ, suc, _+_, _-_, _≤_, _<_}
 use native.Mathlib.Omega.{arith}
-use borrow.Author.Tests.{le-ltb, le-leb, eq-eqb, ne-eqb, eqb-true, eqb-false}
+use borrow.Author.Tests.{le-ltb, le-leb, leb-true, eq-eqb, ne-eqb, eqb-true, eqb-false}
 use lib.Dec.{leb, eqb}
 use lib.ListN.{length}
 use Rattle.laws.specs.Choice.{if_then_else_}
 use Rattle.laws.specs.Buffer.{writes}
-use Rattle.laws.proofs.Test.{by-test}
-use Rattle.fixed.specs.Fixed.{versionOf, witnessVersion, isWitnessProgram}
-use Rattle.witness.specs.Program.{versionByte, wrongV0, witnessBytes, witnessSays, programOf}
+use Rattle.laws.proofs.Test.{by-test, and-left, and-right, either}
+use Rattle.opcodes.specs.Core.{decodeOP-N}
+use Rattle.fixed.specs.Fixed.{witnessVersion, isWitnessProgram}
+use Rattle.fixed.proofs.Versions.{program-long}
+use Rattle.witness.specs.Program.{versionByte, wrongV0, witnessBytes, witnessSays, ReadsBack, VersionAndPush}
 
 pub bytes-length : (version : ℕ) (program : List ℕ) → length (witnessBytes version program) ≡ length program + 2
 unfolding witnessBytes
@@ -25,11 +28,6 @@ unfolding witnessSays
 taken-program version program room v l m w = rw (le-ltb 16 version v, le-ltb (length program) 2 l, le-ltb 40 (length program) m, w)
 
 -- ---- read back
-
-pub record ReadsBack (version : ℕ) (program s : List ℕ) : Type 0 where
-  pub witness : isWitnessProgram s ≡ true
-  pub version-is : versionOf s ≡ version
-  pub program-is : programOf s ≡ program
 
 -- what a version byte is, and says
 Byte : ℕ → ℕ → Type 0
@@ -63,3 +61,32 @@ unfolding witnessVersion
 found-again version program v l m =
     let b = built-is-witness version program v l m in
     rw (b .witness) (ap some (b .version-is))
+
+-- ---- every witness program is built so
+
+-- a version byte is the byte of the version that it says
+byte-again : (code : ℕ) → (eqb code 0 || (leb 0x51 code && leb code 0x60)) ≡ true → (versionByte (decodeOP-N code) ≡ code) × (decodeOP-N code ≤ 16)
+byte-again code e =
+    ⊎-elim (λ z. rw (eqb-true code 0 z) (refl, omega arith))
+    (λ r.
+    let a = leb-true 0x51 code (and-left _ _ r) in
+    let b = leb-true code 0x60 (and-right (leb 0x51 code) _ r) in
+    rw (ne-eqb code 0 (omega arith), ne-eqb (code - 0x50) 0 (omega arith)) (omega arith, omega arith))
+    (either _ _ e)
+
+taken-apart : (s : List ℕ) → isWitnessProgram s ≡ true → VersionAndPush s
+unfolding isWitnessProgram witnessBytes
+taken-apart [] e = absurd (omega (arith, program-long [] e))
+taken-apart (code ∷ []) e = absurd (omega (arith, program-long (code ∷ []) e))
+taken-apart (code ∷ len ∷ program) e =
+    let n : ℕ = suc (suc (length program)) in
+    let sizes : Bool = leb 4 n && leb n 42 in
+    let first : Bool = eqb code 0 || (leb 0x51 code && leb code 0x60) in
+    let most = leb-true n 42 (and-right (leb 4 n) _ (and-left sizes first (and-left _ _ e))) in
+    let is : len ≡ length program = omega (arith, eqb-true (len + 2) n (and-right (sizes && first) _ e)) in
+    let b = byte-again code (and-right sizes first (and-left _ _ e)) in
+    (decodeOP-N code, program, ap₂ (λ (x y : ℕ). x ∷ y ∷ program) (sym (b .0)) is, b .1, omega (arith, program-long (code ∷ len ∷ program) e), omega arith)
+
+-- BIP 141: a script is a witness program exactly if it is the opcode of a version from 0 to 16, a direct push of 2 to 40 bytes, and nothing else.
+pub witness-exactly : (s : List ℕ) → (isWitnessProgram s ≡ true) ↔ VersionAndPush s
+witness-exactly s = (taken-apart s, λ p. rw (p .2) (built-is-witness (p .0) (p .1) (p .3) (p .4) (p .5) .witness))

@@ -1,12 +1,14 @@
 -- A witness program as a script: BIP 141, 'Witness program', and document 01, 'Witness program'. Assumes nothing.
-use mathlib.Core.Bool.{Bool, not, _&&_, _||_}
+use mathlib.Core.Path.{_≡_}
+use mathlib.Core.Bool.{Bool, true, not, _&&_, _||_}
 use mathlib.Core.List.{List, [], _∷_}
-use Prim.Native.Nat.{ℕ, _+_}
+use Prim.Native.Nat.{ℕ, _+_, _≤_}
 use lib.Dec.{ltb, eqb}
 use lib.ListN.{length, drop}
 use Rattle.laws.specs.Choice.{if_then_else_}
 use Rattle.laws.specs.Said.{Said, refuses}
 use Rattle.laws.specs.Buffer.{writes}
+use Rattle.fixed.specs.Fixed.{versionOf, isWitnessProgram}
 
 -- 'version byte 0 or 0x50 + version'
 abbrev pub versionByte : ℕ → ℕ
@@ -31,3 +33,13 @@ witnessSays version program room =
 -- the bytes after the version and the length
 abbrev pub programOf : List ℕ → List ℕ
 programOf s = drop 2 s
+
+-- a script is a witness program of this version with this program
+pub record ReadsBack (version : ℕ) (program s : List ℕ) : Type 0 where
+  pub witness : isWitnessProgram s ≡ true
+  pub version-is : versionOf s ≡ version
+  pub program-is : programOf s ≡ program
+
+-- a version's opcode, a direct push of 2 to 40 bytes, which is their number and then they, and nothing else
+abbrev pub VersionAndPush : List ℕ → Type 0
+VersionAndPush s = (version : ℕ) × (program : List ℕ) × (s ≡ witnessBytes version program) × (version ≤ 16) × (2 ≤ length program) × (length program ≤ 40)

@@ -99,7 +99,7 @@ impl Run {
         for cursors in cursors {
             let before: Vec<u8> = (0..cursors).flat_map(|i| (at as u64 ^ (i * 0x77)).to_ne_bytes()).collect();
             let mut after = before.clone();
-            let said = if cursors == 0 { Said::no(7) } else { said };
+            let said = if cursors == 0 { Said::short_values() } else { said };
             if cursors > 0 {
                 after[..8].copy_from_slice(&(next as u64).to_ne_bytes());
             }

@@ -6,7 +6,7 @@ use borrow.Author.Needs.{needs}
 use borrow.Author.Tests.{ltb-false}
 use lib.ListN.{length}
 use Rattle.asm.specs.Asm.{textOf}
-use Rattle.screen.specs.Screen.{most, screenOf, inspectSays}
+use Rattle.screen.specs.Screen.{mostShown, screenOf, inspectSays}
 use Rattle.inspect.proofs.Room.{no-room, room}
 use Rattle.screen.proofs.Whole.{over, within-length, written}
 use Rattle.inspect.proofs.inspect.Statement.{statement}
@@ -20,7 +20,7 @@ returns c =
     rw (over _ (sym (t .before .is-over .ensures) ∙ t .if1 .taken)) (w .write-refused .ensures)
 
 -- the script is within the inspector's limit
-small : (i : tie.Else1) → length (i .before .before .before .before .args .script .now) ≤ most
+small : (i : tie.Else1) → length (i .before .before .before .before .args .script .now) ≤ mostShown
 small i = ltb-false _ _ (sym (i .before .is-over .ensures) ∙ i .if1 .left)
 
 -- head and text are measured

@@ -7,13 +7,14 @@ use Prim.Native.Nat.{ℕ, _+_, _-_, _≤_, _<_}
 use native.Mathlib.Omega.{arith}
 use borrow.Author.Needs.{needs}
 use lib.ListN.{length, getD}
-use Rattle.laws.specs.Said.{Said}
+use Rattle.laws.specs.Said.{Said, answers, unless}
+use Rattle.refusal.specs.Answer.{saidCount}
 use Rattle.walk.specs.Answer.{isMinimal}
 use Rattle.script.specs.Walk.{Walked, walkSays}
 use Rattle.script.specs.Run.{walkFrom, items, ending}
+use Rattle.places.specs.Places.{placeCountSays}
 use Rattle.places.proofs.Places.{counted}
-use Rattle.walk.proofs.Turn.{says-at}
-use Rattle.script.proofs.Sized.{stands-fits, turn-sized, stops}
+use Rattle.script.proofs.Sized.{stands-fits, turn-sized, stops, size-told, size-refused}
 use Rattle.places.proofs.count.Statement.{statement}
 use Rattle.places.proofs.count.Tie as tie
 
@@ -27,7 +28,7 @@ abbrev μ-loop : tie.MeasureT-loop
 μ-loop script mode at₀ n₀ at n = length script - at
 
 -- where the size is known
-module _ (d : tie.After-size Inv-loop μ-loop) where
+module _ (d : tie.After-whole-size Inv-loop μ-loop) where
   abbrev m : Bool
   m = isMinimal (d .before .before .before .args .mode)
 
@@ -41,7 +42,7 @@ module _ (d : tie.After-size Inv-loop μ-loop) where
   n = d .before .loop .n
 
   abbrev size : ℕ
-  size = d .size .result
+  size = d .whole-size .result
 
   bytes : (i : ℕ) → getD s i 0 < 256
   bytes i = omega (arith, d .before .before .shared-slice-known .given i)
@@ -49,21 +50,21 @@ module _ (d : tie.After-size Inv-loop μ-loop) where
   -- an instruction stands there
   module _ (some : 0 < size) where
     ends-at : p + size ≤ length s
-    ends-at = stands-fits m s p bytes size (d .size .ensures) some
+    ends-at = stands-fits m s p bytes size (d .whole-size .ensures) some
 
     again : (p + size ≤ length s) × (n + 1 ≤ p + size) × (n + 1 + length (items (walkFrom m s (p + size))) ≡ length (items (walkFrom m s 0)))
         × (ending (walkFrom m s (p + size)) ≡ ending (walkFrom m s 0))
     again =
         let i = d .before .loop .inv in
-        let t = turn-sized m s p bytes size (d .size .ensures) some in
+        let t = turn-sized m s p bytes size (d .whole-size .ensures) some in
         (ends-at, omega arith, omega (arith, ap (λ r. length (items r)) t), sym (ap ending t) ∙ i .3)
 
   -- the walk stops there
-  ends : {a : Said Walked} → size ≡ 0 → walkSays m s p ≡ a → (length (items (walkFrom m s 0)) ≡ n) × (ending (walkFrom m s 0) ≡ a)
+  ends : {a : Said Walked} → size ≡ 0 → walkSays m s p ≡ a → placeCountSays m s ≡ unless a (answers n)
   ends z e =
       let i = d .before .loop .inv in
-      let t = stops m s p (sym (d .size .ensures) ∙ z) in
-      (omega (arith, ap (λ r. length (items r)) t), sym (i .3) ∙ ap ending t ∙ e)
+      let t = stops m s p (sym (d .whole-size .ensures) ∙ z) in
+      counted m s (omega (arith, ap (λ r. length (items r)) t), sym (i .3) ∙ ap ending t ∙ e)
 
 some-of : (c : tie.Else1 Inv-loop μ-loop) → 0 < size (c .before)
 some-of c = omega (arith, c .if1 .left)
@@ -72,29 +73,17 @@ returns : tie.Need-returns Inv-loop μ-loop
 returns c =
     let k = c .before .before .before in
     let d = k .before .before in
-    sym (counted (m d) (s d) (ends d (k .before .if1 .taken) (says-at _ _ _ (k .next .ensures) (c .before .found .given .1))))
+    sym (ends d (k .before .if1 .taken) (size-refused (m d) (s d) (p d) (ap saidCount (sym (c .before .sized .given .1)) ∙ k .size .ensures)))
 
 returns-2 : tie.Need-returns-2 Inv-loop μ-loop
 returns-2 c =
     let k = c .before .before in
     let d = k .before .before in
-    sym (counted (m d) (s d) (ends d (k .before .if1 .taken) (says-at _ _ _ (k .next .ensures) (c .enum-told .given .1))))
-
-returns-3 : tie.Need-returns-3 Inv-loop μ-loop
-returns-3 c =
-    let k = c .before .before in
-    let d = k .before .before in
-    sym (counted (m d) (s d) (ends d (k .before .if1 .taken) (says-at _ _ _ (k .next .ensures) (c .enum-told2 .given .1))))
-
-returns-4 : tie.Need-returns-4 Inv-loop μ-loop
-returns-4 c =
-    let k = c .before .before in
-    let d = k .before .before in
-    sym (counted (m d) (s d) (ends d (k .before .if1 .taken) (says-at _ _ _ (k .next .ensures) (c .enum-told3 .given .1))))
+    sym (ends d (k .before .if1 .taken) refl ∙ size-told (m d) (s d) (p d) (answers (n d)) (ap saidCount (sym (c .enum-told .given .1)) ∙ k .size .ensures))
 
 pub count-spec : {M : Type 1} → statement M
 count-spec =
     tie.close
     (tie.spec Inv-loop μ-loop (λ c. (omega arith, omega arith, omega arith, refl)) (λ c κs. search needs) (λ c κs. search needs) (λ c. search needs) returns
-    (λ c. search needs) returns-2 (λ c. search needs) returns-3 (λ c. search needs) returns-4 (λ c. omega (arith, ends-at (c .before) (some-of c)))
+    (λ c. search needs) returns-2 (λ c. omega (arith, ends-at (c .before) (some-of c)))
     (λ c. omega (arith, ends-at (c .before) (some-of c))) (λ c. omega (arith, ends-at (c .before) (some-of c), some-of c)) (λ c. again (c .before) (some-of c)))

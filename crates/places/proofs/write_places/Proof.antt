@@ -12,7 +12,8 @@ use lib.Seq.{sets}
 use Rattle.opcodes.specs.Opcode.{sortOf}
 use Rattle.walk.specs.Answer.{isMinimal}
 use Rattle.script.specs.Run.{Run, walkFrom, items}
-use Rattle.places.specs.Places.{placeOf, placesOf}
+use Rattle.script.specs.Walk.{placeOf}
+use Rattle.places.specs.Places.{placesOf}
 use Rattle.script.proofs.Sized.{within-limit, stands-fits, turn-sized, stops}
 use Rattle.places.proofs.Places.{place-is}
 use Rattle.places.proofs.write_places.Statement.{statement}
@@ -31,7 +32,7 @@ abbrev μ-loop : tie.MeasureT-loop
 μ-loop script mode table₀ at₀ i₀ table at i = length script - at
 
 -- where the size is known
-module _ (d : tie.After-size Inv-loop μ-loop) where
+module _ (d : tie.After-whole-size Inv-loop μ-loop) where
   abbrev start : tie.Start Inv-loop μ-loop
   start = d .before .before .before .before
 
@@ -51,7 +52,7 @@ module _ (d : tie.After-size Inv-loop μ-loop) where
   i = d .before .loop .i
 
   abbrev size : ℕ
-  size = d .size .result
+  size = d .whole-size .result
 
   bytes : (k : ℕ) → getD s k 0 < 256
   bytes k = omega (arith, d .before .before .before .shared-slice-known .given k)
@@ -59,15 +60,15 @@ module _ (d : tie.After-size Inv-loop μ-loop) where
   -- an instruction stands there
   module _ (some : 0 < size) where
     ends-at : p + size ≤ length s
-    ends-at = stands-fits m s p bytes size (d .size .ensures) some
+    ends-at = stands-fits m s p bytes size (d .whole-size .ensures) some
 
     small : length s ≤ 4194304
-    small = within-limit m s p bytes size (d .size .ensures) some
+    small = within-limit m s p bytes size (d .whole-size .ensures) some
 
     -- its place comes first
     goes-on : from m s p ≡ p ∷ from m s (p + size)
     goes-on =
-        ap (λ (r : Run). map placeOf (items r)) (turn-sized m s p bytes size (d .size .ensures) some)
+        ap (λ (r : Run). map placeOf (items r)) (turn-sized m s p bytes size (d .whole-size .ensures) some)
         ∙ ap (λ place. place ∷ from m s (p + size)) (place-is (sortOf (getD s p 0)) p _ _)
 
     room : i + suc (length (from m s (p + size))) ≤ length table
@@ -83,7 +84,7 @@ module _ (d : tie.After-size Inv-loop μ-loop) where
   ends : size ≡ 0 → table ≡ sets (start .args .table .now) 0 (placesOf m s)
   unfolding placesOf
   ends z =
-      sym (ap (λ (r : Run). sets table i (map placeOf (items r))) (stops m s p (sym (d .size .ensures) ∙ z))) ∙ d .before .loop .inv .3
+      sym (ap (λ (r : Run). sets table i (map placeOf (items r))) (stops m s p (sym (d .whole-size .ensures) ∙ z))) ∙ d .before .loop .inv .3
 
 some-of : (c : tie.Else1 Inv-loop μ-loop) → 0 < size (c .before)
 some-of c = omega (arith, c .if1 .left)

@@ -25,8 +25,8 @@ returns-3 c =
     let s = k .before .before .before .before .before in
     let script = s .args .script .now in
     let at = getD (s .args .cursor .now) 0 0 in
-    let e = n .next .ensures .1 ∙ ap (λ b. nextAt b script at) m in
-    advanced _ _ (s .args .cursor .now) _ (k .before .if1 .left) (k .if2 .left) (steps-as _ (d .step .ensures) e (n .next .ensures .0 ∙ ap (λ b. walkSays b script at) m)) (ap (set (s .args .cursor .now) 0) e)
+    let e = n .moved-on .ensures .1 ∙ ap (λ b. nextAt b script at) m in
+    advanced _ _ (s .args .cursor .now) _ (k .before .if1 .left) (k .if2 .left) (steps-as _ (d .step .ensures) e (n .moved-on .ensures .0 ∙ ap (λ b. walkSays b script at) m)) (ap (set (s .args .cursor .now) 0) e)
 
 pub advance-spec : {M : Type 1} → statement M
 advance-spec =

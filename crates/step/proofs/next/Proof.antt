@@ -9,7 +9,7 @@ use lib.ListN.{length, getD}
 use lib.Seq.{sets}
 use Rattle.refusal.specs.Refusal.{limit}
 use Rattle.opcodes.specs.Opcode.{sortOf, lengthBytesAfter}
-use Rattle.script.specs.Walk.{walked, walkSays, nextAt, sizeSaid}
+use Rattle.script.specs.Walk.{found, walked, walkSays, nextAt, sizeSaid}
 use Rattle.script.proofs.Sized.{within-limit, inside-script, stands-is, stands-head, stands-fits, stands-next}
 use Rattle.hand.specs.Handed.{handed, steps, walkedRow, minimalOf}
 use Rattle.hand.proofs.Handing.{steps-short, steps-row, steps-as}
@@ -18,7 +18,7 @@ use Rattle.step.proofs.next.Tie as tie
 
 -- where there is a size
 module _ (c : tie.Else2) where
-  abbrev z : tie.After-size
+  abbrev z : tie.After-whole-size
   z = c .before
 
   abbrev start : tie.Start
@@ -36,32 +36,32 @@ module _ (c : tie.Else2) where
   bytes : (i : ℕ) → getD script i 0 < 256
   bytes i = omega (arith, z .before .before .before .before .shared-slice-known .given i)
 
-  sized : z .size .result ≡ sizeSaid (walkSays minimal script at)
-  sized = z .size .ensures ∙ ap (λ b. sizeSaid (walkSays b script at)) (z .before .mode-of .ensures)
+  sized : z .whole-size .result ≡ sizeSaid (walkSays minimal script at)
+  sized = z .whole-size .ensures ∙ ap (λ b. sizeSaid (walkSays b script at)) (z .before .mode-of .ensures)
 
-  some : 0 < z .size .result
+  some : 0 < z .whole-size .result
   some = omega (arith, c .if2 .left)
 
   inside : at < length script
-  inside = inside-script minimal script at bytes (z .size .result) sized some
+  inside = inside-script minimal script at bytes (z .whole-size .result) sized some
 
-  head : 1 + lengthBytesAfter (sortOf (getD script at 0)) ≤ z .size .result
-  head = stands-head minimal script at bytes (z .size .result) sized some
+  head : 1 + lengthBytesAfter (sortOf (getD script at 0)) ≤ z .whole-size .result
+  head = stands-head minimal script at bytes (z .whole-size .result) sized some
 
-  ends : at + z .size .result ≤ limit
+  ends : at + z .whole-size .result ≤ limit
   ends =
-      omega (arith, within-limit minimal script at bytes (z .size .result) sized some, stands-fits minimal script at bytes (z .size .result) sized some)
+      omega (arith, within-limit minimal script at bytes (z .whole-size .result) sized some, stands-fits minimal script at bytes (z .whole-size .result) sized some)
 
   abbrev stood : List ℕ
-  stood = walkedRow (walked (sortOf (getD script at 0)) at (getD script at 0) (z .size .result - (1 + lengthBytesAfter (sortOf (getD script at 0)))))
+  stood = walkedRow (found (walked (sortOf (getD script at 0)) at (getD script at 0) (z .whole-size .result - (1 + lengthBytesAfter (sortOf (getD script at 0))))))
 
   row : (r : ℕ) (new old : List ℕ) → 6 ≤ length old → r ≡ 0
-      → new ≡ sets old 0 ((at + z .size .result) ∷ stood)
+      → new ≡ sets old 0 ((at + z .whole-size .result) ∷ stood)
       → handed r new ≡ steps (nextAt minimal script at) (walkSays minimal script at) old
   row r new old h e g =
       ap (λ r. handed r new) e
-      ∙ steps-row (nextAt minimal script at) (walkSays minimal script at) old _ h (stands-is minimal script at bytes (z .size .result) sized some)
-      (g ∙ ap (λ n. sets old 0 (n ∷ stood)) (stands-next minimal script at bytes (z .size .result) sized some))
+      ∙ steps-row (nextAt minimal script at) (walkSays minimal script at) old _ h (stands-is minimal script at bytes (z .whole-size .result) sized some)
+      (g ∙ ap (λ n. sets old 0 (n ∷ stood)) (stands-next minimal script at bytes (z .whole-size .result) sized some))
 
 returns : tie.Need-returns
 returns c =

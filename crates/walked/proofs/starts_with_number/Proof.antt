@@ -6,12 +6,12 @@ use Prim.Native.Nat.{ℕ}
 use native.Mathlib.Omega.{arith}
 use borrow.Author.Needs.{needs}
 use lib.ListN.{length, getD}
-use Rattle.opcodes.specs.Opcode.{saidCode, numberOf}
+use Rattle.opcodes.specs.Opcode.{saidCode, pushnumOf}
 use Rattle.walked.specs.Walked.{numberThen}
 use Rattle.walked.proofs.starts_with_number.Statement.{statement}
 use Rattle.walked.proofs.starts_with_number.Tie as tie
 
-empty : (s : List ℕ) → length s ≡ 0 → false ≡ numberThen (λ m. true) (numberOf (getD s 0 0))
+empty : (s : List ℕ) → length s ≡ 0 → false ≡ numberThen (λ m. true) (pushnumOf (getD s 0 0))
 empty [] h = refl
 empty (x ∷ s) h = absurd (omega arith)
 

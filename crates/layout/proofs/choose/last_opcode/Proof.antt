@@ -13,7 +13,7 @@ use Rattle.opcodes.specs.Opcode.{saidCode}
 use Rattle.script.specs.Walk.{Walked}
 use Rattle.script.specs.Run.{Run, stop, walkFrom, fold}
 use Rattle.walk.proofs.Turn.{turn-at, moves-at}
-use Rattle.building.specs.Builder.{opcodeIn, unlessRefused, lastOpcode}
+use Rattle.building.specs.Builder.{opcodeIn, unlessRefused, lastIfOpcode}
 use Rattle.layout.proofs.choose.last_opcode.Statement.{statement}
 use Rattle.layout.proofs.choose.last_opcode.Tie as tie
 
@@ -40,8 +40,8 @@ module _ (d : tie.After-next Inv-loop μ-loop) where
   step : {run : Run} → walkFrom false s (d .before .loop .c .at) ≡ run → last-of now-last run ≡ last-of none (walkFrom false s 0)
   step t = sym (ap (last-of now-last) t) ∙ d .before .loop .inv .1
 
-  ends : {a : Said Walked} → walkFrom false s (d .before .loop .c .at) ≡ stop a → unlessRefused (now-last, a) ≡ lastOpcode s
-  unfolding lastOpcode
+  ends : {a : Said Walked} → walkFrom false s (d .before .loop .c .at) ≡ stop a → unlessRefused (now-last, a) ≡ lastIfOpcode s
+  unfolding lastIfOpcode
   ends t = ap unlessRefused (step t)
 
 returns : tie.Need-returns Inv-loop μ-loop

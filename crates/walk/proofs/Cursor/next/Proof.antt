@@ -7,7 +7,7 @@ use borrow.Author.Needs.{needs}
 use lib.ListN.{getD}
 use Rattle.laws.specs.Said.{answers}
 use Rattle.opcodes.specs.Opcode.{saidClass}
-use Rattle.script.specs.Walk.{opcode, walkSays, nextAt}
+use Rattle.script.specs.Walk.{found, opcode, walkSays, nextAt}
 use Rattle.script.proofs.Step.{settles, too-long, bad-cursor, at-end, opcode-says, number-code, plain-code}
 use Rattle.walk.proofs.Cursor.next.Statement.{statement}
 use Rattle.walk.proofs.Cursor.next.Tie as tie
@@ -32,7 +32,7 @@ module _ (m : tie.After-classify) where
   a = m .before .before .before .before .before .before
 
   opcode-right : (minimal : Bool) → 78 < getD (a .args .script .now) (a .args .self .at) 0
-      → (answers (opcode (a .args .self .at) (getD (a .args .script .now) (a .args .self .at) 0)) ≡ walkSays minimal (a .args .script .now) (a .args .self .at))
+      → (answers (found (opcode (a .args .self .at) (getD (a .args .script .now) (a .args .self .at) 0))) ≡ walkSays minimal (a .args .script .now) (a .args .self .at))
       × (a .args .self .at + 1 ≡ nextAt minimal (a .args .script .now) (a .args .self .at))
   opcode-right minimal o =
       let s = a .args .script .now in

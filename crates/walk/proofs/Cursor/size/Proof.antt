@@ -1,62 +1,41 @@
--- `walk::Cursor::size` meets its contract, as `next` does. Assumes nothing.
-use mathlib.Core.Path.{_≡_, sym, ap, _∙_}
-use mathlib.Core.Bool.{Bool}
-use Prim.Native.Nat.{_<_}
+-- `walk::Cursor::size` meets its contract: what was found says the size, and a push stands whole in the script. Assumes nothing.
+use mathlib.Core.Path.{_≡_}
 use native.Mathlib.Omega.{arith}
 use borrow.Author.Needs.{needs}
-use lib.ListN.{getD}
-use Rattle.opcodes.specs.Opcode.{saidClass}
-use Rattle.script.specs.Walk.{walkSays, sizeSaid}
-use Rattle.script.proofs.Step.{too-long, bad-cursor, at-end, opcode-says, number-code, plain-code}
+use Rattle.laws.specs.Said.{answers, unless}
+use Rattle.script.specs.Walk.{sizeSaid, sizeSays}
+use Rattle.script.proofs.Sized.{says-size}
+use Rattle.walk.specs.Answer.{saidFound, isMinimal}
+use Rattle.walk.specs.declared.Found.{Found}
+use Rattle.walk.proofs.Turn.{says-at, good-at}
 use Rattle.walk.proofs.Cursor.size.Statement.{statement}
 use Rattle.walk.proofs.Cursor.size.Tie as tie
 
-returns : tie.Need-returns
-returns c = sym (ap sizeSaid (too-long _ _ _ (c .if1 .taken)))
+-- where the step is known
+module _ (d : tie.After-next) where
+  abbrev start : tie.Start
+  start = d .before .before
 
-returns-2 : tie.Need-returns-2
-returns-2 c = sym (ap sizeSaid (bad-cursor _ _ _ (c .before .if1 .left) (c .if2 .taken)))
+  told : {f : Found} → d .next .result .found ≡ f
+      → unless (saidFound f) (answers (sizeSaid (saidFound f))) ≡ sizeSays (isMinimal (start .args .mode)) (start .args .script .now) (start .args .self .at)
+  told is = says-size _ _ _ (says-at _ _ _ (d .next .ensures) is)
+
+add-t11 : tie.Need-add-t11
+add-t11 c =
+    let d = c .before .before .before .before in
+    omega (arith, good-at _ _ _ (d .next .ensures) (c .before .before .found .given .1), c .length-bytes .ensures)
+
+add-t12 : tie.Need-add-t12
+add-t12 c =
+    let d = c .before .before .before .before in
+    omega (arith, good-at _ _ _ (d .next .ensures) (c .before .before .found .given .1), c .length-bytes .ensures)
 
 returns-3 : tie.Need-returns-3
-returns-3 c = sym (ap sizeSaid (at-end _ _ _ (c .before .before .if1 .left) (c .if3 .taken)))
-
-push-size-requires : tie.Need-push-size-requires
-push-size-requires c κs =
-    let m = c .before .before .before in
-    (omega arith, omega arith, sym (m .classify .ensures) ∙ ap saidClass (c .before .class .given .1))
-
--- where the opcode is no push
-module _ (m : tie.After-classify) where
-  abbrev a : tie.Start
-  a = m .before .before .before .before .before .before
-
-  one-byte : (minimal : Bool) → 78 < getD (a .args .script .now) (a .args .self .at) 0
-      → 1 ≡ sizeSaid (walkSays minimal (a .args .script .now) (a .args .self .at))
-  one-byte minimal o = sym (ap sizeSaid (opcode-says minimal (a .args .script .now) (a .args .self .at) (omega arith) (omega arith) o))
-
-returns-5 : tie.Need-returns-5
-returns-5 c =
-    let m = c .before .before in
-    one-byte m _ (number-code _ (sym (m .classify .ensures) ∙ ap saidClass (c .enum-told .given .1)))
-
-returns-6 : tie.Need-returns-6
-returns-6 c =
-    let m = c .before .before in
-    one-byte m _ (plain-code _ (sym (m .classify .ensures) ∙ ap saidClass (c .enum-told2 .given .1)))
+returns-3 c = rw (c .length-bytes .ensures) (told (c .before .before .before .before) (c .before .before .found .given .1))
 
 pub size-spec : {M : Type 1} → statement M
 size-spec =
     tie.close
-    (tie.spec
-    returns
-    returns-2
-    returns-3
-    (λ c. search needs)
-    (λ c κs. search needs)
-    (λ c. search needs)
-    push-size-requires
-    (λ c. search needs)
-    (λ c. search needs)
-    (λ c. search needs)
-    returns-5
-    returns-6)
+    (tie.spec (λ c κs. search needs) (λ c. search needs) (λ c. search needs) (λ c. search needs) (λ c κs. search needs) add-t11 add-t12 (λ c. search needs)
+    (λ c. told (c .before .before) (c .enum-told .given .1)) (λ c. told (c .before .before) (c .enum-told2 .given .1)) returns-3
+    (λ c. told (c .before .before .before) (c .before .found2 .given .1)))
