@@ -4,3 +4,4 @@ pub mod Answered
 pub mod Filled
 pub mod Stored
 pub mod Table
+pub mod Part

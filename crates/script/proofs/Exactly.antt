@@ -7,10 +7,11 @@ use mathlib.Core.List.{List, [], _∷_}
 use Prim.Native.Nat.{ℕ, suc, _+_, _≤_, _<_}
 use native.Mathlib.Omega.{arith}
 use borrow.Author.Tests.{lt-leb, not-true}
-use lib.ListN.{length, getD, take, drop, length-drop, List·getD-eq-default}
-use lib.Seq.{length-take-le, getD-take, getD-drop}
+use lib.ListN.{length, getD, take, drop, length-drop}
+use lib.Seq.{length-take-le}
 use Rattle.laws.specs.Said.{Said, answers, refuses}
 use Rattle.laws.proofs.Test.{by-test, lt-or-le}
+use Rattle.laws.proofs.Part.{part-bytes}
 use Rattle.refusal.specs.Refusal.{limit}
 use Rattle.opcodes.specs.Opcode.{PushForm, direct, pushdata1, pushdata2, pushdata4, lengthBytes, sortOf}
 use Rattle.script.specs.Script.{ScriptOp, fails, reads, getScriptOp}
@@ -33,13 +34,6 @@ judges (push form body) st =
     minimal-same form (opcodeOf form (length body)) body (form-code form (length body) (st .0)) (λ e. rw e) (st .0)
 
 -- ---- what is handed out stands there
-
-part-bytes : (s : List ℕ) → Bytes s → (n p : ℕ) → length (take n (drop p s)) ≡ n → Bytes (take n (drop p s))
-part-bytes s b n p l i =
-    ⊎-elim
-    (λ (h : i < n). rw (getD-take n (drop p s) i 0 h, getD-drop p s i 0) (b (p + i)))
-    (λ (g : n ≤ i). rw (List·getD-eq-default (take n (drop p s)) 0 {n = i} (omega arith)) (omega arith))
-    (lt-or-le i n)
 
 module _ (minimal : Bool) (s : List ℕ) (bytes : Bytes s) (at : ℕ) where
   stands-at : (i : Instruction) → Stands i → Laid s at i → (minimal && notMinimal (codeOf i) (dataOf i)) ≡ false → StandsAt minimal s at i

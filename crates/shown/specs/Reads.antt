@@ -19,3 +19,7 @@ pub data Reached (room : ℕ) : (done : ℕ) (last : ℤ) → Type 0 where
 -- there is no more to read: the buffer is full, or the last read brought nothing
 abbrev pub Left : (room done : ℕ) (last : ℤ) → Type 0
 Left room done last = (done ≡ room) ⊎ (brought last ≡ 0)
+
+-- .. and none failed: the buffer is full, or the input has ended
+abbrev pub Whole : (room done : ℕ) (last : ℤ) → Type 0
+Whole room done last = (done ≡ room) ⊎ (last ≡ pos 0)

@@ -9,7 +9,7 @@ ghost use Prim.Native.Nat.{_-_, _≤_, _<_};
 ghost use lib.ListN.{length, take, drop};
 ghost use Rattle.screen.specs.Screen.{mostShown, screenOf};
 ghost use Rattle.libc.specs.Io.{Moved};
-ghost use Rattle.shown.specs.Reads.{brought, Reached, Left};
+ghost use Rattle.shown.specs.Reads.{brought, Reached, Left, Whole};
 
 // How many bytes are read at most: one more than is inspected. What follows them changes no screen.
 const MAX_READ: usize = 2801;
@@ -79,9 +79,9 @@ fn print(shown: &[u8]) {
     );
 }
 
-// The screen of what the reads brought, which have come to the input's end or filled the buffer.
+// The screen of what the reads brought, which have come to the input's end or filled the buffer, and of which none failed.
 fn show(script: &[u8], reads: Reads)
-    requires { ⌜ Reached (length (now script)) (reads .done) (reads .last) × Left (length (now script)) (reads .done) (reads .last) ⌝ }
+    requires { ⌜ Reached (length (now script)) (reads .done) (reads .last) × Whole (length (now script)) (reads .done) (reads .last) ⌝ }
 {
     let mut out = io::large_buffer();
     let n = screen(script, reads, &mut out);

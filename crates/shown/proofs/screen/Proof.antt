@@ -1,15 +1,14 @@
 -- `shown::screen` meets its contract: with that room `inspect` answers. Assumes nothing.
 use mathlib.Core.Path.{_≡_, sym, ap, _∙_}
 use mathlib.Core.List.{List, _++_}
-use mathlib.Core.Logic.{⊎-elim}
-use Prim.Native.Nat.{ℕ, _≤_, _<_}
+use Prim.Native.Nat.{ℕ}
 use native.Mathlib.Omega.{arith}
 use borrow.Author.Needs.{needs}
-use lib.ListN.{length, take, drop, length-append, List·getD-eq-default}
-use lib.Seq.{length-take-le, getD-take}
+use lib.ListN.{length, take, drop, length-append}
+use lib.Seq.{length-take-le}
 use Rattle.laws.specs.Said.{answers}
 use Rattle.laws.specs.Bytes.{Bytes}
-use Rattle.laws.proofs.Test.{lt-or-le}
+use Rattle.laws.proofs.Part.{part-bytes}
 use Rattle.refusal.specs.Answer.{saidCount}
 use Rattle.screen.specs.Screen.{screenOf, inspectSays}
 use Rattle.screen.proofs.Short.{has-room}
@@ -20,13 +19,6 @@ use Rattle.shown.proofs.screen.Tie as tie
 slice-aggregate-inspect : tie.Need-slice-aggregate-inspect
 slice-aggregate-inspect c = let a = c .before .before .before in sym (length-take-le (a .args .reads .done) (a .args .script .now) (a .pre .0))
 
-bytes-front : (s : List ℕ) → Bytes s → (n : ℕ) → n ≤ length s → Bytes (take n s)
-bytes-front s b n h i =
-    ⊎-elim
-    (λ (l : i < n). rw (getD-take n s i 0 l) (b i))
-    (λ (g : n ≤ i). rw (List·getD-eq-default (take n s) 0 {n = i} (omega (arith, length-take-le n s h))) (omega arith))
-    (lt-or-le i n)
-
 -- the screen is written
 module _ (i : tie.After-inspect) where
   abbrev start : tie.Start
@@ -36,7 +28,10 @@ module _ (i : tie.After-inspect) where
   script = take (start .args .reads .done) (start .args .script .now)
 
   said : inspectSays script (length (start .args .out .now)) ≡ answers (length (screenOf script))
-  said = has-room script (bytes-front (start .args .script .now) (λ j. omega (arith, i .before .before .before .before .shared-slice-known .given j)) (start .args .reads .done) (start .pre .0)) (length (start .args .out .now)) (start .pre .1)
+  said =
+      let n = start .args .reads .done in
+      let bytes : Bytes (start .args .script .now) = λ j. omega (arith, i .before .before .before .before .shared-slice-known .given j) in
+      has-room script (part-bytes (start .args .script .now) bytes n 0 (length-take-le n (start .args .script .now) (start .pre .0))) (length (start .args .out .now)) (start .pre .1)
 
   left : i .inspect .last .1 .0 ≡ screenOf script ++ drop (length (screenOf script)) (start .args .out .now)
   left = rw said at (i .inspect .ensures .1)
