@@ -1,6 +1,6 @@
-# Document 01 once more, in Python. Each function's comment opens with the paragraph that it follows; where that paragraph leaves the
-# word to Bitcoin Core, the function of Core is named. An answer is returned, a refusal is raised. What document 01 does not say is
-# taken from docs/, and says so.
+# Document 01 once more, in Python, as document 02 amends it. Each function's comment opens with the paragraph that it follows; where that
+# paragraph leaves the word to Bitcoin Core, the function of Core is named. An answer is returned, a refusal is raised. What document 01
+# does not say is taken from docs/, and says so.
 from collections import namedtuple
 from functools import lru_cache
 from itertools import islice
@@ -33,10 +33,9 @@ from names import (
 MAX_SCRIPT = 4_194_304
 MAX_AMOUNT = 2**64 - 1
 
-# Refusals by number.
+# Refusals by number. Document 02, 'Say what was cut': 3 is retired, and 14 and 15 are in its place.
 TOO_LONG = 1
 NON_MINIMAL = 2
-EARLY_END = 3
 NUMBER_TOO_LONG = 4
 NUMBER_NOT_MINIMAL = 5
 NUMBER_OUT_OF_RANGE = 6
@@ -47,6 +46,8 @@ PROGRAM_LENGTH = 10
 PROGRAM_LENGTH_V0 = 11
 BAD_VERSION = 12
 BAD_BUILDER = 13
+LENGTH_CUT = 14
+BODY_CUT = 15
 
 
 # Refusals by number: a number and its values, each under the word that is printed before it.
@@ -57,7 +58,7 @@ class Refused(Exception):
         self.values = values
 
 
-# Refusals by number: the walk's own, 2 and 3, have the place where the push starts. Cut length bytes and a cut body are one number, and two in the text.
+# Refusals by number: the walk's own have the place where the push starts. Document 02: the two cuts "keep the place and add how many bytes are missing".
 class WalkRefused(Refused):
     number = None
 
@@ -71,11 +72,11 @@ class NonMinimal(WalkRefused):
 
 
 class LengthCut(WalkRefused):
-    number = EARLY_END
+    number = LENGTH_CUT
 
 
 class BodyCut(WalkRefused):
-    number = EARLY_END
+    number = BODY_CUT
 
 
 # Refusals by number: 1 on what is given, before all others.
@@ -177,19 +178,20 @@ def is_wasteful(code, size, first):
     return code in LEAST_LENGTH and size < LEAST_LENGTH[code]
 
 
-# The walk: the instruction at a place before the script's end. The minimal tests precede the body's length. Core: GetScriptOp.
+# The walk: the instruction at a place before the script's end. The minimal tests precede the body's length. Core: GetScriptOp. What is missing is
+# "counted from the first part that is short": bytes of the length where these are cut, bytes of the body where it is.
 def read(script, at, minimal):
     code = script[at]
     if code > OP_PUSHDATA4:
         return at, code, at + 1, at + 1
     body = at + 1 + LENGTH_BYTES.get(code, 0)
     if body > len(script):
-        raise LengthCut(at)
+        raise LengthCut(at, missing=body - len(script))
     size = int.from_bytes(script[at + 1 : body], "little") if code in LENGTH_BYTES else code
     if minimal and is_wasteful(code, size, script[body : body + 1]):
         raise NonMinimal(at)
     if body + size > len(script):
-        raise BodyCut(at)
+        raise BodyCut(at, missing=body + size - len(script))
     return at, code, body, body + size
 
 

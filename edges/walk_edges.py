@@ -15,7 +15,11 @@ FRONT = 3
 
 WHOLE = ["", "4c 00", "4e 01 00 00 00 aa", "00 4f 50", "ff 02 01 02"]
 ONE_BYTE = ["01", "01 00", "01 05", "01 10", "01 11", "01 81"]
-CUT = ["4c", "4c 05", "51 4c", "4d 05", "4e ff ff ff ff"]
+CUT = ["4c", "4c 05", "51 4c", "4d 05", "4e ff ff ff ff", "4b", "51 4b aa", "4d 01", "4e 05 00 00 00 aa"]
+
+# One push in the longest form, cut behind each of its bytes, and whole.
+LONGEST = script("4e 03 00 00 00 aa bb cc")
+CUT_LONGEST = [LONGEST[:size] for size in range(1, len(LONGEST) + 1)]
 
 # The least lengths that two of the forms are for, and one body cut by a byte.
 DATA2 = script("4d 00 01") + run_of(7, 256)
@@ -26,6 +30,7 @@ LONG_FORMS = [DATA2, DATA1, DATA1[:-1]]
 WASTEFUL = [script("4c 4b") + run_of(7, 75), script("4d ff 00") + run_of(7, 255)]
 
 TABLES = ["51 52 ae", "51 01 05 ae", "51 52 02 ae"]
+CUT_TABLES = ["51 52 4d 01", "51 4c 05", "4b", "4e ff ff ff ff"]
 
 # At the limit and one byte over it.
 LONG_OPCODES = [run_of(OP_NOP, paper.MAX_SCRIPT), run_of(OP_NOP, paper.MAX_SCRIPT + 1)]
@@ -94,9 +99,9 @@ def long_lines(given):
 
 
 def output():
-    for given in [script(text) for text in WHOLE + ONE_BYTE + CUT] + LONG_FORMS + WASTEFUL:
+    for given in [script(text) for text in WHOLE + ONE_BYTE + CUT] + CUT_LONGEST + LONG_FORMS + WASTEFUL:
         yield from script_lines(given)
-    for text in TABLES:
+    for text in TABLES + CUT_TABLES:
         yield from table_lines(script(text))
     for given in LONG_OPCODES + LONG_PUSHES:
         yield from long_lines(given)

@@ -4,16 +4,17 @@
  * Link with target/staticlib/libboundary.a, which `rt staticlib boundary` makes (x86-64; beside it nothing but the C library).
  *
  * One convention for all functions:
- * - The result is 0; or the number of a refusal, one of BB_TOO_LONG to BB_BAD_BUILDER below; or BB_SHORT_VALUES, which is no refusal but a mistake
- *   in the call.
+ * - The result is 0; or the number of a refusal, one of those that are listed below under 'The refusals'; or BB_SHORT_VALUES, which is no refusal but a
+ *   mistake in the call.
  * - Every slice is a pointer and, directly after it, the number of its entries. A pointer must be valid for that many entries and aligned for them;
  *   where there are none it is not used, and may be NULL. Slices that are written must overlap no other.
  * - `values` (`number`, where it is called so) is the answer's own place. Each function says how many entries it must have at least, and what they
  *   are. The values of the answer stand at its front after the call; entries that an answer does not name are as they were.
- * - On a refusal the refusal's values stand at its front: the place (refusals 2 and 3) or what is needed (7), one entry; the others have none. The walk
- *   (bb_next, bb_advance) and the builder have their state before them. The entries behind are as they were.
- * - All other slices are as they were after a refusal, save one: refusals 2 and 3 move the cursor that bb_advance is lent to the script's end. On success
- *   what lies behind the written bytes or entries is as it was.
+ * - On a refusal the refusal's values stand at its front: one entry, the place (refusal 2) or what is needed (7); two entries, the place and how many bytes
+ *   are missing (14 and 15); the others have none. The walk (bb_next, bb_advance) and the builder have their state before them. The entries behind are as
+ *   they were.
+ * - All other slices are as they were after a refusal, save one: refusals 2, 14 and 15 move the cursor that bb_advance is lent to the script's end. On
+ *   success what lies behind the written bytes or entries is as it was.
  * - Where `values` has too few entries, or the cursor of bb_advance none, the result is BB_SHORT_VALUES, whatever the answer would be, and nothing at
  *   all is changed, `values` included. So 7 always means that an output is too short, and stands beside what is needed.
  * - A script is at most 4,194,304 bytes long; a longer one is BB_TOO_LONG.
@@ -28,10 +29,9 @@
 extern "C" {
 #endif
 
-/* The refusals. */
+/* The refusals. 3 is retired, 14 and 15 are in its place; it is not used again. */
 #define BB_TOO_LONG 1            /* a script, a builder's used length, read_scriptbool's bytes or a built script exceeds the limit */
 #define BB_NON_MINIMAL 2         /* minimal mode: a push that has a shorter form; values: its place */
-#define BB_EARLY_END 3           /* a push's length bytes or body are cut; values: its place */
 #define BB_NUMBER_TOO_LONG 4     /* a number to be read has over 4 bytes */
 #define BB_NUMBER_NOT_MINIMAL 5  /* strict reader: not the writer's form */
 #define BB_NUMBER_OUT_OF_RANGE 6 /* writing -2^63 */
@@ -42,6 +42,8 @@ extern "C" {
 #define BB_PROGRAM_LENGTH_V0 11  /* version 0 and neither 20 nor 32 bytes */
 #define BB_BAD_VERSION 12        /* a version above 16 */
 #define BB_BAD_BUILDER 13        /* a length above the buffer's, or what is remembered is not the last used byte */
+#define BB_LENGTH_CUT 14         /* the length bytes of a push are cut; values: its place, and how many of them are missing */
+#define BB_BODY_CUT 15           /* the body of a push is cut; values: its place, and how many bytes of the body are missing */
 
 /* No refusal: `values`, or the cursor of bb_advance, has too few entries. Nothing is changed. */
 #define BB_SHORT_VALUES 255
@@ -108,18 +110,21 @@ uint32_t bb_read_scriptbool(const uint8_t *v, size_t v_len, uint64_t *values, si
 uint32_t bb_cursor_new(uint64_t *values, size_t values_len);
 /*
  * What stands at a place. values, 6 entries: the place for the next call, and then BB_END; or BB_OPCODE, place, opcode; or BB_PUSH, place, number of
- * length bytes (0, 1, 2 or 4), place of the body, length of the body. Refused: 1, 8, then 2 or 3: the place for the next call (the script's end after
- * 2 and 3, else `at`), and after 2 and 3 where the push starts.
+ * length bytes (0, 1, 2 or 4), place of the body, length of the body. Refused, in this order: 1, 8, 14, 2, 15: the place for the next call (the script's
+ * end after 14, 2 and 15, else `at`), then after 14, 2 and 15 where the push starts, and then after 14 and 15 how many bytes are missing.
  */
 uint32_t bb_next(const uint8_t *script, size_t script_len, size_t at, uint32_t mode, uint64_t *values, size_t values_len);
 /* The body of the push at a place. values, 2 entries: where it lies and its length; 0 and 0 where bb_next gives no push, refusals included. Not refused. */
 uint32_t bb_body(const uint8_t *script, size_t script_len, size_t at, uint32_t mode, uint64_t *values, size_t values_len);
 /*
  * As bb_next, with the place lent and moved on: cursor, 1 entry, which is then the place for the next call, as the first value is. values, 6 entries: as
- * those of bb_next. Refused: as bb_next; 2 and 3 move the cursor to the script's end, 1 and 8 leave it.
+ * those of bb_next. Refused: as bb_next; 14, 2 and 15 move the cursor to the script's end, 1 and 8 leave it.
  */
 uint32_t bb_advance(uint64_t *cursor, size_t cursor_len, const uint8_t *script, size_t script_len, uint32_t mode, uint64_t *values, size_t values_len);
-/* Every instruction's place, into a table. values, 1 entry: how many. Refused: 1, 2 or 3, 7 with the entries needed. */
+/*
+ * Every instruction's place, into a table. values, 2 entries, the second for refusals 14 and 15 alone: how many. Refused: 1; then 14, 2 or 15, as the walk
+ * is, with the push's place and after 14 and 15 how many bytes are missing; then 7 with the entries needed.
+ */
 uint32_t bb_positions(const uint8_t *script, size_t script_len, uint32_t mode, uint32_t *table, size_t table_len, uint64_t *values, size_t values_len);
 
 /* Templates. Each: values, 1 entry: 1 for yes, 0 for no. Refused: 1. */

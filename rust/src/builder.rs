@@ -125,7 +125,7 @@ impl<'a> Builder<'a> {
         let room = self.buffer.len();
         let refused = call(self.length, self.remembered, self.buffer.as_mut_ptr(), room, state.as_mut_ptr(), 3);
         if refused != 0 {
-            return Err(Refusal::given(refused, state[2]));
+            return Err(Refusal::given(refused, &state[2..]));
         }
         self.length = state[0] as usize;
         self.remembered = state[1] as u32;

@@ -5,6 +5,7 @@ use std::ptr::{null_mut, NonNull};
 use std::vec::Vec;
 
 use crate::ffi::*;
+use crate::Value;
 
 /// What stands in values that nobody has written.
 const LENT: u64 = 0xa5a5_a5a5_a5a5_a5a5;
@@ -48,7 +49,8 @@ fn values_that_are_too_few() {
         needs("cursor_new", 1, 0, &mut |v, c| bb_cursor_new(v, c));
         needs("next", 6, 0, &mut |v, c| bb_next(p, n, 0, PLAIN, v, c));
         needs("next", 6, 8, &mut |v, c| bb_next(p, n, 5, PLAIN, v, c));
-        needs("next", 6, 3, &mut |v, c| bb_next(p, 3, 1, MINIMAL, v, c));
+        needs("next", 6, 15, &mut |v, c| bb_next(p, 3, 1, MINIMAL, v, c));
+        needs("next", 6, 14, &mut |v, c| bb_next([0x4d, 0x01].as_ptr(), 2, 0, MINIMAL, v, c));
         needs("body", 2, 0, &mut |v, c| bb_body(p, n, 1, PLAIN, v, c));
         needs("is_p2sh", 1, 0, &mut |v, c| bb_is_p2sh(p, n, v, c));
         needs("is_p2pkh", 1, 0, &mut |v, c| bb_is_p2pkh(p, n, v, c));
@@ -117,8 +119,15 @@ fn lent_bytes_when_values_are_too_few() {
 fn the_table_the_cursor_and_the_number() {
     let s = [0x51, 0x52];
     let mut table = [LENT as u32; 4];
-    let none = lend(0, &mut |v, c| unsafe { bb_positions(s.as_ptr(), 2, PLAIN, table.as_mut_ptr(), 4, v, c) });
-    assert_eq!((none, table), ((SHORT_VALUES, [LENT; 10]), [LENT as u32; 4]));
+    for (fewer, room) in [(0, 4), (1, 4), (0, 1), (1, 1)] {
+        let got =
+            lend(fewer, &mut |v, c| unsafe { bb_positions(s.as_ptr(), 2, PLAIN, table.as_mut_ptr(), room, v, c) });
+        assert_eq!((got, table), ((SHORT_VALUES, [LENT; 10]), [LENT as u32; 4]), "{fewer} values");
+    }
+    let mut values = [LENT; 10];
+    values[1] = 2;
+    let got = lend(2, &mut |v, c| unsafe { bb_positions(s.as_ptr(), 2, PLAIN, table.as_mut_ptr(), 4, v, c) });
+    assert_eq!((got, table), ((0, values), [0, 1, LENT as u32, LENT as u32]));
 
     let mut cursor = [1, LENT];
     for (places, values) in [(0, 6), (1, 5), (1, 0), (0, 0)] {
@@ -180,24 +189,57 @@ fn refused_calls_change_no_lent_byte() {
     }
 }
 
-/// Refusals 2 and 3 move a lent cursor to the script's end, 1 and 8 leave it. The place stands before the refusal's value.
+/// Refusals 2, 14 and 15 move a lent cursor to the script's end, 1 and 8 leave it. The place for the next call stands before the refusal's values.
 #[test]
 fn a_refused_advance() {
     let s = [0x51, 0x01, 0x05, 0x02, 0xaa];
     let long = std::vec![0x51; crate::MAX_SCRIPT_LEN + 1];
-    for (script, mode, number, at, next, value) in [
-        (&s[..], MINIMAL, 2, 1, 5, 1),
-        (&s[..], PLAIN, 3, 3, 5, 3),
-        (&s[..], PLAIN, 8, 6, 6, LENT),
-        (&long[..], PLAIN, 1, 3, 3, LENT),
+    for (script, mode, number, at, next, named) in [
+        (&s[..], MINIMAL, 2, 1, 5, [1, LENT]),
+        (&s[..], PLAIN, 15, 3, 5, [3, 1]),
+        (&s[..], PLAIN, 8, 6, 6, [LENT, LENT]),
+        (&long[..], PLAIN, 1, 3, 3, [LENT, LENT]),
     ] {
         let mut cursor = [at, LENT];
         let got = lend(6, &mut |v, c| unsafe {
             bb_advance(cursor.as_mut_ptr(), 1, script.as_ptr(), script.len(), mode, v, c)
         });
         let mut values = [LENT; 10];
-        values[1..3].copy_from_slice(&[next, value]);
+        values[1] = next;
+        values[2..4].copy_from_slice(&named);
         assert_eq!((got, cursor), ((number, values), [next, LENT]));
+    }
+}
+
+/// A cut push: its place and how many bytes are missing. In the walk they stand behind the place for the next call, beside a table at the front; what lies
+/// behind them is as it was, and the table too.
+#[test]
+fn both_values_of_a_cut_push() {
+    for (script, mode, number, place, missing) in [
+        (&[0x51, 0x4c][..], PLAIN, 14, 1, 1),
+        (&[0x4d, 0x01], MINIMAL, 14, 0, 1),
+        (&[0x4e], PLAIN, 14, 0, 4),
+        (&[0x4b], MINIMAL, 15, 0, 75),
+        (&[0x4e, 5, 0, 0, 0, 0xaa], PLAIN, 15, 0, 4),
+        (&[0x4e, 0xff, 0xff, 0xff, 0xff], MINIMAL, 15, 0, 4_294_967_295),
+    ] {
+        let (p, n, end) = (script.as_ptr(), script.len(), script.len() as u64);
+        let mut walked = [LENT; 10];
+        walked[1..4].copy_from_slice(&[end, place, missing]);
+        let got = lend(6, &mut |v, c| unsafe { bb_next(p, n, place as usize, mode, v, c) });
+        assert_eq!(got, (number, walked));
+        let mut cursor = [place, LENT];
+        let got = lend(6, &mut |v, c| unsafe { bb_advance(cursor.as_mut_ptr(), 1, p, n, mode, v, c) });
+        assert_eq!((got, cursor), ((number, walked), [end, LENT]));
+
+        let mut beside = [LENT; 10];
+        beside[1..3].copy_from_slice(&[place, missing]);
+        let mut table = [LENT as u32; 4];
+        for count in 0..5 {
+            let got = lend(count, &mut |v, c| unsafe { bb_positions(p, n, mode, table.as_mut_ptr(), 4, v, c) });
+            let expected = if count < 2 { (SHORT_VALUES, [LENT; 10]) } else { (number, beside) };
+            assert_eq!((got, table), (expected, [LENT as u32; 4]), "{count} values");
+        }
     }
 }
 
@@ -282,23 +324,41 @@ fn no_entries_at_null() {
 
 /// A number that is no refusal's becomes neither an answer nor a refusal.
 #[test]
-#[should_panic(expected = "gave 14, which is not a refusal's number")]
+#[should_panic(expected = "gave 16, which is not a refusal's number")]
 fn an_unknown_number_ends_here() {
-    crate::Refusal::given(14, 0);
+    crate::Refusal::given(16, &[0, 0]);
+}
+
+/// A library that still has refusal 3 is not the one that this package was written for.
+#[test]
+#[should_panic(expected = "gave 3, which is not a refusal's number")]
+fn the_retired_number_ends_here() {
+    crate::Refusal::given(3, &[0, 0]);
+}
+
+/// Where a function is lent too few values for a refusal's, it does not have that refusal.
+#[test]
+#[should_panic(expected = "gave 14, which is not a refusal that this function has")]
+fn a_refusal_without_its_values_ends_here() {
+    crate::Refusal::given(14, &[0]);
 }
 
 /// Too few values are no refusal, and this package never lends too few.
 #[test]
 #[should_panic(expected = "was lent fewer values than it asks for")]
 fn too_few_values_end_here() {
-    crate::Refusal::given(SHORT_VALUES, 0);
+    crate::Refusal::given(SHORT_VALUES, &[0, 0]);
 }
 
 #[test]
-fn every_refusal_keeps_its_number_and_value() {
-    for number in 1..=13 {
-        let refusal = crate::Refusal::given(number, 77);
-        let value = if [2, 3, 7].contains(&number) { Some(77) } else { None };
+fn every_refusal_keeps_its_number_and_values() {
+    for number in (1..=15).filter(|number| *number != 3) {
+        let refusal = crate::Refusal::given(number, &[77, 88]);
+        let value = match number {
+            2 | 7 => Value::Is(77),
+            14 | 15 => Value::Both(77, 88),
+            _ => Value::Nothing,
+        };
         assert_eq!((refusal.number(), refusal.value()), (number, value));
     }
 }

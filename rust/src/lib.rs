@@ -30,7 +30,7 @@ mod walk;
 
 pub use builder::Builder;
 pub use numbers::{read_scriptbool, read_scriptint, read_scriptint_non_minimal, scriptint_len, write_scriptint};
-pub use refusal::Refusal;
+pub use refusal::{Refusal, Value};
 pub use script::{witness_program, Kind, Script, MAX_SCRIPT_LEN};
 pub use walk::{Cursor, Form, Found, Instruction, InstructionIndices, Instructions, Mode};
 
@@ -42,7 +42,7 @@ fn values<const N: usize>(call: impl FnOnce(*mut u64, usize) -> u32) -> Result<[
     let mut values = [0; N];
     match call(values.as_mut_ptr(), N) {
         0 => Ok(values),
-        number => Err(Refusal::given(number, values[0])),
+        number => Err(Refusal::given(number, &values)),
     }
 }
 

@@ -38,6 +38,6 @@ fn number(call: impl FnOnce(*mut i64) -> u32) -> Result<i64, Refusal> {
     let mut number = 0;
     match call(&mut number) {
         0 => Ok(number),
-        refused => Err(Refusal::given(refused, number as u64)),
+        refused => Err(Refusal::given(refused, &[])),
     }
 }

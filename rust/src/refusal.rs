@@ -1,4 +1,4 @@
-//! The refusals of document 01.
+//! The refusals of document 01, as document 02 amends them.
 
 use core::fmt;
 
@@ -6,14 +6,14 @@ use crate::ffi;
 
 /// Why there is no answer. A refused call leaves every slice that it was lent as it was, and a builder too. A cursor that is moved in place
 /// ([`Cursor::advance`](crate::Cursor::advance)) stands at the script's end after a refused push.
+///
+/// Number 3 is retired: [`LengthCut`](Refusal::LengthCut) and [`BodyCut`](Refusal::BodyCut) are in its place.
 #[derive(Clone, Copy, Debug, PartialEq, Eq, Hash)]
 pub enum Refusal {
     /// 1: a script, a builder's used length, `read_scriptbool`'s bytes or a built script exceeds 4,194,304 bytes.
     TooLong,
     /// 2: minimal mode, a push that has a shorter form; the place where it starts.
     NonMinimal(usize),
-    /// 3: a push's length bytes or body are cut; the place where it starts.
-    EarlyEnd(usize),
     /// 4: a number to be read has over 4 bytes.
     NumberTooLong,
     /// 5: strict reader, not the writer's form.
@@ -34,15 +34,29 @@ pub enum Refusal {
     BadVersion,
     /// 13: a builder's length above the buffer's, or what it remembers is not the last used byte.
     BadBuilder,
+    /// 14: a push's length bytes are cut; the place where it starts, and how many of them are missing.
+    LengthCut(usize, usize),
+    /// 15: a push's body is cut; the place where the push starts, and how many bytes of the body are missing.
+    BodyCut(usize, usize),
+}
+
+/// What stands beside a refusal's number.
+#[derive(Clone, Copy, Debug, PartialEq, Eq, Hash)]
+pub enum Value {
+    /// A place (2), or what is needed (7).
+    Is(usize),
+    /// A place, and how many bytes are missing (14 and 15).
+    Both(usize, usize),
+    /// Nothing: all others.
+    Nothing,
 }
 
 impl Refusal {
-    /// The refusal's number in document 01.
+    /// The refusal's number.
     pub const fn number(self) -> u32 {
         match self {
             Refusal::TooLong => 1,
             Refusal::NonMinimal(_) => 2,
-            Refusal::EarlyEnd(_) => 3,
             Refusal::NumberTooLong => 4,
             Refusal::NumberNotMinimal => 5,
             Refusal::NumberOutOfRange => 6,
@@ -53,35 +67,42 @@ impl Refusal {
             Refusal::ProgramLengthV0 => 11,
             Refusal::BadVersion => 12,
             Refusal::BadBuilder => 13,
+            Refusal::LengthCut(..) => 14,
+            Refusal::BodyCut(..) => 15,
         }
     }
 
-    /// The place or the need that stands beside the number, where one does.
-    pub const fn value(self) -> Option<usize> {
+    /// What stands beside the number: a place, what is needed, a place and what is missing, or nothing.
+    pub const fn value(self) -> Value {
         match self {
-            Refusal::NonMinimal(value) | Refusal::EarlyEnd(value) | Refusal::NoRoom(value) => Some(value),
-            _ => None,
+            Refusal::NonMinimal(value) | Refusal::NoRoom(value) => Value::Is(value),
+            Refusal::LengthCut(place, missing) | Refusal::BodyCut(place, missing) => Value::Both(place, missing),
+            _ => Value::Nothing,
         }
     }
 
-    /// What the library's number and value say.
+    /// What the library's number says, and the values where a function puts a refusal's.
     #[cold]
-    pub(crate) fn given(number: u32, value: u64) -> Refusal {
-        let value = value as usize;
+    pub(crate) fn given(number: u32, values: &[u64]) -> Refusal {
+        let value = |i: usize| match values.get(i) {
+            Some(value) => *value as usize,
+            None => unknown("a refusal that this function has", number.into()),
+        };
         match number {
             1 => Refusal::TooLong,
-            2 => Refusal::NonMinimal(value),
-            3 => Refusal::EarlyEnd(value),
+            2 => Refusal::NonMinimal(value(0)),
             4 => Refusal::NumberTooLong,
             5 => Refusal::NumberNotMinimal,
             6 => Refusal::NumberOutOfRange,
-            7 => Refusal::NoRoom(value),
+            7 => Refusal::NoRoom(value(0)),
             8 => Refusal::BadCursor,
             9 => Refusal::FeeTooLarge,
             10 => Refusal::ProgramLength,
             11 => Refusal::ProgramLengthV0,
             12 => Refusal::BadVersion,
             13 => Refusal::BadBuilder,
+            14 => Refusal::LengthCut(value(0), value(1)),
+            15 => Refusal::BodyCut(value(0), value(1)),
             ffi::SHORT_VALUES => too_few(),
             other => unknown("a refusal's number", other.into()),
         }
@@ -108,7 +129,6 @@ impl fmt::Display for Refusal {
         match self {
             Refusal::TooLong => f.write_str("more than 4,194,304 bytes"),
             Refusal::NonMinimal(place) => write!(f, "the push at {place} has a shorter form"),
-            Refusal::EarlyEnd(place) => write!(f, "the push at {place} is cut"),
             Refusal::NumberTooLong => f.write_str("a number of more than 4 bytes"),
             Refusal::NumberNotMinimal => f.write_str("a number that is not in its shortest form"),
             Refusal::NumberOutOfRange => f.write_str("-2^63 cannot be written"),
@@ -119,6 +139,12 @@ impl fmt::Display for Refusal {
             Refusal::ProgramLengthV0 => f.write_str("a witness program of version 0 with neither 20 nor 32 bytes"),
             Refusal::BadVersion => f.write_str("a witness version above 16"),
             Refusal::BadBuilder => f.write_str("a builder that does not fit its buffer"),
+            Refusal::LengthCut(place, missing) => {
+                write!(f, "the length of the push at {place} is cut, missing bytes: {missing}")
+            }
+            Refusal::BodyCut(place, missing) => {
+                write!(f, "the body of the push at {place} is cut, missing bytes: {missing}")
+            }
         }
     }
 }

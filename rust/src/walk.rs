@@ -114,7 +114,7 @@ fn step(bytes: &[u8], at: usize, mode: Mode, values: &mut [u64; 6]) -> u32 {
 #[inline]
 fn found(bytes: &[u8], refused: u32, [sort, place, value, body, length]: [u64; 5]) -> Result<Found<'_>, Refusal> {
     if refused != 0 {
-        return Err(Refusal::given(refused, sort));
+        return Err(Refusal::given(refused, &[sort, place]));
     }
     Ok(match sort {
         ffi::END => Found::End,
@@ -195,7 +195,7 @@ impl<'a> Iterator for InstructionIndices<'a> {
         let values = &self.values;
         if refused != 0 {
             self.over = true;
-            return Some(Err(Refusal::given(refused, values[1])));
+            return Some(Err(Refusal::given(refused, &values[1..3])));
         }
         // At the script's end the answer is End: it need not be asked for.
         self.over = values[0] as usize == self.script.len();
@@ -260,9 +260,9 @@ impl Script {
     #[inline]
     pub fn positions(&self, mode: Mode, table: &mut [u32]) -> Result<usize, Refusal> {
         let bytes = self.as_bytes();
-        crate::value(|values, count| unsafe {
+        crate::values(|values, count| unsafe {
             ffi::bb_positions(bytes.as_ptr(), bytes.len(), mode as u32, table.as_mut_ptr(), table.len(), values, count)
         })
-        .map(|n| n as usize)
+        .map(|[n, _]| n as usize)
     }
 }

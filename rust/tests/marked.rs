@@ -1,4 +1,4 @@
-//! The marked examples of document 01, W1 to W12, and the inspector's.
+//! The marked examples of document 01, W1 to W12, with document 02's numbers in W2, W5 and W6, and the inspector's.
 
 use brinebutton::{
     opcodes, read_scriptbool, read_scriptint, read_scriptint_non_minimal, scriptint_len, witness_program,
@@ -58,7 +58,7 @@ fn w1_the_empty_script() {
 #[test]
 fn w2_a_push_without_its_body() {
     for mode in MODES {
-        assert_eq!(walk(&[0x01], mode), [Err(Refusal::EarlyEnd(0)), Ok(Found::End)]);
+        assert_eq!(walk(&[0x01], mode), [Err(Refusal::BodyCut(0, 1)), Ok(Found::End)]);
     }
 }
 
@@ -77,7 +77,7 @@ fn w4_a_zero_byte_as_a_direct_push() {
 
 #[test]
 fn w5_a_cut_push_that_is_not_minimal() {
-    assert_eq!(walk(&[0x4c, 0x05], Mode::Plain), [Err(Refusal::EarlyEnd(0)), Ok(Found::End)]);
+    assert_eq!(walk(&[0x4c, 0x05], Mode::Plain), [Err(Refusal::BodyCut(0, 5)), Ok(Found::End)]);
     assert_eq!(walk(&[0x4c, 0x05], Mode::Minimal), [Err(Refusal::NonMinimal(0)), Ok(Found::End)]);
 }
 
@@ -86,7 +86,7 @@ fn w6_an_opcode_before_cut_length_bytes() {
     let bytes = [0x51, 0x4c];
     for mode in MODES {
         let opcode = Ok(Found::Opcode { place: 0, code: 0x51 });
-        assert_eq!(walk(&bytes, mode), [opcode, Err(Refusal::EarlyEnd(1)), Ok(Found::End)]);
+        assert_eq!(walk(&bytes, mode), [opcode, Err(Refusal::LengthCut(1, 1)), Ok(Found::End)]);
     }
     assert_eq!(Script::from_bytes(&bytes).to_asm_string().unwrap(), "OP_PUSHNUM_1<unexpected end>");
 }
@@ -193,6 +193,29 @@ fn the_other_wrappers() {
     assert_eq!(p2pk.positions(Mode::Plain, &mut table), Ok(2));
     assert_eq!(table, [0, 34, 7]);
     assert_eq!(p2pk.positions(Mode::Plain, &mut table[..1]), Err(Refusal::NoRoom(2)));
+}
+
+/// Which part of a push is cut and how many bytes are missing, by every way to walk and in the table, which is left as it was.
+#[test]
+fn what_was_cut() {
+    let long = [0x4e, 0xff, 0xff, 0xff, 0xff];
+    for (bytes, refusal, text) in [
+        (&[0x4d, 0x01][..], Refusal::LengthCut(0, 1), "the length of the push at 0 is cut, missing bytes: 1"),
+        (&[0x4e], Refusal::LengthCut(0, 4), "the length of the push at 0 is cut, missing bytes: 4"),
+        (&[0x4b], Refusal::BodyCut(0, 75), "the body of the push at 0 is cut, missing bytes: 75"),
+        (&long, Refusal::BodyCut(0, 4_294_967_295), "the body of the push at 0 is cut, missing bytes: 4294967295"),
+    ] {
+        let mut table = [7; 3];
+        for mode in MODES {
+            assert_eq!(walk(bytes, mode), [Err(refusal), Ok(Found::End)]);
+            assert_eq!(Script::from_bytes(bytes).positions(mode, &mut table), Err(refusal));
+        }
+        assert_eq!(table, [7; 3]);
+        assert_eq!(refusal.to_string(), text);
+    }
+    let bytes = [0x4e, 0x05, 0x00, 0x00, 0x00, 0xaa];
+    assert_eq!(walk(&bytes, Mode::Plain), [Err(Refusal::BodyCut(0, 4)), Ok(Found::End)]);
+    assert_eq!(walk(&bytes, Mode::Minimal), [Err(Refusal::NonMinimal(0)), Ok(Found::End)]);
 }
 
 /// A builder whose calls are refused can be used on.

@@ -1,7 +1,7 @@
 //! Our answers: the functions of the static library, lent slices with guards around them, and the safe functions of package brinebutton
 //! brought to the same form. After a call every entry that was lent is looked at, and the guards.
 
-use brinebutton::{ffi, Found, Refusal};
+use brinebutton::{ffi, Found, Refusal, Value};
 
 use crate::entries::{Entry, ENTRIES};
 
@@ -55,8 +55,9 @@ impl Said {
     /// A refusal of package brinebutton.
     pub fn refusal(refusal: Refusal) -> Said {
         match refusal.value() {
-            Some(value) => Said::new(refusal.number(), &[value as u64]),
-            None => Said::no(refusal.number()),
+            Value::Is(value) => Said::new(refusal.number(), &[value as u64]),
+            Value::Both(place, missing) => Said::new(refusal.number(), &[place as u64, missing as u64]),
+            Value::Nothing => Said::no(refusal.number()),
         }
     }
 

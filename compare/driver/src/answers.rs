@@ -7,29 +7,43 @@ pub enum Mode {
     Minimal,
 }
 
-/// The refusals that both sides know, under the names of document 01, with the place where one has a place.
+/// The refusals that both sides know, under the names of documents 01 and 02. The crate has one error for both cuts, which `crate_side` tells apart.
 #[derive(Clone, Copy, Debug, PartialEq, Eq)]
 pub enum Refusal {
+    /// The place where the push starts.
     NonMinimal(usize),
-    EarlyEnd(usize),
     NumberTooLong,
     NumberNotMinimal,
     ProgramLength,
     ProgramLengthV0,
     BadVersion,
+    /// The place, and how many length bytes are missing.
+    LengthCut(usize, usize),
+    /// The place, and how many bytes of the body are missing.
+    BodyCut(usize, usize),
 }
 
 impl Refusal {
-    /// The refusal's number in document 01.
+    /// The refusal's number. 3 is retired.
     pub fn number(self) -> u32 {
         match self {
             Refusal::NonMinimal(_) => 2,
-            Refusal::EarlyEnd(_) => 3,
             Refusal::NumberTooLong => 4,
             Refusal::NumberNotMinimal => 5,
             Refusal::ProgramLength => 10,
             Refusal::ProgramLengthV0 => 11,
             Refusal::BadVersion => 12,
+            Refusal::LengthCut(..) => 14,
+            Refusal::BodyCut(..) => 15,
+        }
+    }
+
+    /// What stands beside the number: the place, the place and what is missing, or nothing.
+    pub fn values(self) -> Vec<u64> {
+        match self {
+            Refusal::NonMinimal(place) => vec![place as u64],
+            Refusal::LengthCut(place, missing) | Refusal::BodyCut(place, missing) => vec![place as u64, missing as u64],
+            _ => Vec::new(),
         }
     }
 }

@@ -28,7 +28,7 @@ pub fn walk(bytes: &[u8], mode: Mode) -> Vec<Step> {
         let place = bytes.len() - instructions.as_script().len();
         match instructions.next() {
             None => return steps,
-            Some(Err(error)) => steps.push(Step::Refused(walk_refusal(error, place))),
+            Some(Err(error)) => steps.push(Step::Refused(walk_refusal(error, bytes, place))),
             Some(Ok((place, Instruction::Op(opcode)))) => steps.push(Step::Opcode { place, code: opcode.to_u8() }),
             Some(Ok((place, Instruction::PushBytes(body)))) => {
                 let body_place = bytes.len() - instructions.as_script().len() - body.len();
@@ -201,12 +201,31 @@ pub fn outcome<T>(ask: impl FnOnce() -> T) -> Outcome<T> {
     answer.map_or(Outcome::Panicked, Outcome::Answer)
 }
 
-/// A walk's error as a refusal at the place where the walk stood.
-pub fn walk_refusal(error: script::Error, place: usize) -> Refusal {
+/// A walk's error as a refusal at the place of the script where the walk stood.
+pub fn walk_refusal(error: script::Error, bytes: &[u8], place: usize) -> Refusal {
     match error {
         script::Error::NonMinimalPush => Refusal::NonMinimal(place),
-        script::Error::EarlyEndOfScript => Refusal::EarlyEnd(place),
+        script::Error::EarlyEndOfScript => cut(bytes[place], &bytes[place + 1..], place),
         other => panic!("the walk gave {other}"),
+    }
+}
+
+/// What is cut, and by how much, where the crate says no more than that the script ends early: read from the push's opcode and the bytes behind it. Where
+/// nothing is cut there, the crate's error is not explained.
+fn cut(code: u8, behind: &[u8], place: usize) -> Refusal {
+    let (length, there) = match (code, behind) {
+        (0..=0x4b, there) => (u32::from(code), there),
+        (0x4c, [a, there @ ..]) => (u32::from(*a), there),
+        (0x4d, [a, b, there @ ..]) => (u32::from_le_bytes([*a, *b, 0, 0]), there),
+        (0x4e, [a, b, c, d, there @ ..]) => (u32::from_le_bytes([*a, *b, *c, *d]), there),
+        (0x4c, _) => return Refusal::LengthCut(place, 1 - behind.len()),
+        (0x4d, _) => return Refusal::LengthCut(place, 2 - behind.len()),
+        (0x4e, _) => return Refusal::LengthCut(place, 4 - behind.len()),
+        _ => panic!("the walk gave an early end at opcode {code:02x}, which is no push"),
+    };
+    match (length as usize).checked_sub(there.len()) {
+        None | Some(0) => panic!("the walk gave an early end at a whole push"),
+        Some(missing) => Refusal::BodyCut(place, missing),
     }
 }
 

@@ -108,6 +108,19 @@ pub fn around_lengths() -> Vec<Vec<u8>> {
     scripts
 }
 
+/// Pushes that are cut at each of their bytes, the length bytes too, behind an opcode: in every form one that states a byte more than is there, and one that
+/// states the most that its form can.
+pub fn cut_pushes() -> Vec<Vec<u8>> {
+    let mut scripts = Vec::new();
+    for (form, largest) in [75, 255, 65_535, u32::MAX as usize].into_iter().enumerate() {
+        for stated in [3, largest] {
+            let script = [vec![0x51], push(form, stated, &[7; 2])].concat();
+            scripts.extend((2..=script.len()).map(|end| script[..end].to_vec()));
+        }
+    }
+    scripts
+}
+
 /// Opcodes that some entry treats apart.
 const NOTABLE: [u8; 26] = [
     0x00, 0x4c, 0x4d, 0x4e, 0x4f, 0x50, 0x51, 0x52, 0x5f, 0x60, 0x61, 0x69, 0x6a, 0x87, 0x88, 0x9c, 0x9d, 0xac, 0xad,

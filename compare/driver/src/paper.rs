@@ -1,4 +1,4 @@
-//! Document 01, written down a second time in Rust. Where the crate differs from it on purpose, (a) to (d), this file says what
+//! Document 01, written down a second time in Rust, with the two cuts of document 02. Where the crate differs from it on purpose, (a) to (d), this file says what
 //! document 01 says of the crate, and `core_sigops` and `fee_overflows` what it says of the port.
 
 use crate::answers::{About, Built, Call, Mode, Outcome, Readings, Refusal, Step, RATES};
@@ -110,7 +110,7 @@ pub fn step(script: &[u8], place: usize, mode: Mode) -> Option<Step> {
         }
         Some((count, least)) => {
             let Some(stated) = after.get(..count) else {
-                return Some(Step::Refused(Refusal::EarlyEnd(place)));
+                return Some(Step::Refused(Refusal::LengthCut(place, count - after.len())));
             };
             let length = stated.iter().rev().fold(0, |sum, b| sum * 256 + usize::from(*b));
             (count, length, length >= least)
@@ -120,9 +120,10 @@ pub fn step(script: &[u8], place: usize, mode: Mode) -> Option<Step> {
         return Some(Step::Refused(Refusal::NonMinimal(place)));
     }
     let body_place = place + 1 + length_bytes;
-    Some(match script[body_place..].get(..length) {
+    let behind = &script[body_place..];
+    Some(match behind.get(..length) {
         Some(body) => Step::Push { place, body_place, body: body.to_vec() },
-        None => Step::Refused(Refusal::EarlyEnd(place)),
+        None => Step::Refused(Refusal::BodyCut(place, length - behind.len())),
     })
 }
 

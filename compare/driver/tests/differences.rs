@@ -1,6 +1,6 @@
 //! Where the crate and document 01 part, and what else is easily taken for granted: what the crate does there.
 
-use bitcoin::script::Instruction;
+use bitcoin::script::{Error, Instruction};
 use bitcoin::Script;
 use compare::answers::{Built, Call, Outcome, Refusal, Step};
 use compare::crate_side::{
@@ -74,12 +74,40 @@ fn e_f_long_scripts_are_answered() {
 /// (g) A cut push is judged for minimality as soon as its length bytes, or its one body byte, are there.
 #[test]
 fn g_a_cut_push_is_judged() {
-    for script in [&[0x4c, 75][..], &[0x4d, 0xff, 0], &[0x4e, 0xff, 0xff, 0, 0]] {
+    for (script, missing) in [(&[0x4c, 75][..], 75), (&[0x4d, 0xff, 0], 255), (&[0x4e, 0xff, 0xff, 0, 0], 65_535)] {
         assert_eq!(about(script).minimal, [Step::Refused(Refusal::NonMinimal(0))]);
-        assert_eq!(about(script).plain, [Step::Refused(Refusal::EarlyEnd(0))]);
+        assert_eq!(about(script).plain, [Step::Refused(Refusal::BodyCut(0, missing))]);
     }
-    for script in [&[0x4c, 76][..], &[0x4d, 0, 1], &[0x4e, 0, 0, 1, 0], &[0x4d, 0xff], &[0x4e, 0, 0, 0]] {
-        assert_eq!(about(script).minimal, [Step::Refused(Refusal::EarlyEnd(0))]);
+    for (script, missing) in [(&[0x4c, 76][..], 76), (&[0x4d, 0, 1], 256), (&[0x4e, 0, 0, 1, 0], 65_536)] {
+        assert_eq!(about(script).minimal, [Step::Refused(Refusal::BodyCut(0, missing))]);
+    }
+    for script in [&[0x4d, 0xff][..], &[0x4e, 0, 0, 0]] {
+        assert_eq!(about(script).minimal, [Step::Refused(Refusal::LengthCut(0, 1))]);
+    }
+}
+
+/// One error stands for cut length bytes and for a cut body; which it is and what is missing is read from the script.
+#[test]
+fn one_error_stands_for_two_cuts() {
+    let length = |missing| Refusal::LengthCut(0, missing);
+    let body = |missing| Refusal::BodyCut(0, missing);
+    for (bytes, refusal) in [
+        (&[0x4c][..], length(1)),
+        (&[0x4d, 0x01], length(1)),
+        (&[0x4d], length(2)),
+        (&[0x4e], length(4)),
+        (&[0x4e, 0, 0], length(2)),
+        (&[0x01], body(1)),
+        (&[0x4b], body(75)),
+        (&[0x4b, 7, 7], body(73)),
+        (&[0x4c, 0x05], body(5)),
+        (&[0x4d, 0x01, 0x01, 7], body(256)),
+        (&[0x4e, 5, 0, 0, 0, 0xaa], body(4)),
+        (&[0x4e, 0xff, 0xff, 0xff, 0xff], body(4_294_967_295)),
+    ] {
+        let walked: Vec<_> = Script::from_bytes(bytes).instructions().collect();
+        assert_eq!(walked, [Err(Error::EarlyEndOfScript)]);
+        assert_eq!(about(bytes).plain, [Step::Refused(refusal)]);
     }
 }
 

@@ -1,4 +1,4 @@
-//! The marked examples of document 01, W1 to W12, as far as the crate has a say in them.
+//! The marked examples of document 01, W1 to W12, as far as the crate has a say in them; W2, W5 and W6 as document 02 has them.
 
 use compare::answers::{Call, Outcome, Refusal, Step};
 use compare::crate_side::{about, build, read, write_scriptint};
@@ -7,8 +7,12 @@ fn push(place: usize, body_place: usize, body: &[u8]) -> Step {
     Step::Push { place, body_place, body: body.to_vec() }
 }
 
-fn early_end(place: usize) -> Step {
-    Step::Refused(Refusal::EarlyEnd(place))
+fn length_cut(place: usize, missing: usize) -> Step {
+    Step::Refused(Refusal::LengthCut(place, missing))
+}
+
+fn body_cut(place: usize, missing: usize) -> Step {
+    Step::Refused(Refusal::BodyCut(place, missing))
 }
 
 fn non_minimal(place: usize) -> Step {
@@ -29,8 +33,8 @@ fn w1_the_empty_script() {
 #[test]
 fn w2_a_push_without_its_body() {
     let about = about(&[0x01]);
-    assert_eq!(about.plain, [early_end(0)]);
-    assert_eq!(about.minimal, [early_end(0)]);
+    assert_eq!(about.plain, [body_cut(0, 1)]);
+    assert_eq!(about.minimal, [body_cut(0, 1)]);
 }
 
 #[test]
@@ -50,14 +54,14 @@ fn w4_a_zero_byte_as_a_direct_push() {
 #[test]
 fn w5_a_cut_push_that_is_not_minimal() {
     let about = about(&[0x4c, 0x05]);
-    assert_eq!(about.plain, [early_end(0)]);
+    assert_eq!(about.plain, [body_cut(0, 5)]);
     assert_eq!(about.minimal, [non_minimal(0)]);
 }
 
 #[test]
 fn w6_an_opcode_before_cut_length_bytes() {
     let about = about(&[0x51, 0x4c]);
-    let steps = [Step::Opcode { place: 0, code: 0x51 }, early_end(1)];
+    let steps = [Step::Opcode { place: 0, code: 0x51 }, length_cut(1, 1)];
     assert_eq!(about.plain, steps);
     assert_eq!(about.minimal, steps);
     assert_eq!(about.asm, b"OP_PUSHNUM_1<unexpected end>");

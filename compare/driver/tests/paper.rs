@@ -89,6 +89,11 @@ fn pushes_around_each_length() {
 }
 
 #[test]
+fn pushes_cut_at_each_byte() {
+    lists::cut_pushes().iter().for_each(|script| agree(script))
+}
+
+#[test]
 fn random_scripts() {
     let mut random = Random(2);
     for _ in 0..count() {

@@ -12,6 +12,9 @@ ghost use Rattle.walk.specs.Part.{bodyPlace, bodyLen};
 ghost use Rattle.places.specs.Places.{placesOf, positionsSay};
 ghost use Rattle.hand.specs.Handed.{handed, says, gives, steps, advances, movedTo, unlessShort, one, minimalOf};
 
+// The least number of entries for what is said of the places: a count, or a refusal of the walk with up to two values.
+const POSITIONS_VALUES: usize = 2;
+
 // The cursor at a script's front.
 #[no_mangle]
 pub extern "C" fn bb_cursor_new(values: &mut [u64]) -> u32
@@ -57,9 +60,9 @@ pub extern "C" fn bb_positions(
     table: &mut [u32],
     values: &mut [u64],
 ) -> u32
-    ensures { λ r. ⌜ (handed r (now (values .exit)) ≡ says 1 one (positionsSay (minimalOf mode) (now (script .entry)) (length (now (table .entry)))) (now (values .entry))) × (now (table .exit) ≡ unlessShort 1 (length (now (values .entry))) (after (positionsSay (minimalOf mode) (now (script .entry)) (length (now (table .entry)))) (placesOf (minimalOf mode) (now (script .entry))) (now (table .entry))) (now (table .entry))) ⌝ }
+    ensures { λ r. ⌜ (handed r (now (values .exit)) ≡ says 2 one (positionsSay (minimalOf mode) (now (script .entry)) (length (now (table .entry)))) (now (values .entry))) × (now (table .exit) ≡ unlessShort 2 (length (now (values .entry))) (after (positionsSay (minimalOf mode) (now (script .entry)) (length (now (table .entry)))) (placesOf (minimalOf mode) (now (script .entry))) (now (table .entry))) (now (table .entry))) ⌝ }
 {
-    if values.len() < 1 {
+    if values.len() < POSITIONS_VALUES {
         return SHORT_VALUES;
     }
     hand::count(

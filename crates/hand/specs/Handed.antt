@@ -2,7 +2,7 @@
 use mathlib.Core.Bool.{Bool, not, _||_}
 use mathlib.Core.List.{List, [], _∷_, _++_}
 use mathlib.Core.Option.{Option, none, some}
-use Prim.Native.Nat.{ℕ}
+use Prim.Native.Nat.{ℕ, _≤_}
 use lib.Dec.{ltb, eqb}
 use lib.IntN.{ℤ}
 use lib.ListN.{length, drop}
@@ -29,13 +29,24 @@ valuesSaid row (refuses n values) = values
 pub data Handed (E : Type 0) : Type 0 where
   handed : (r : ℕ) (values : List E) → Handed E
 
--- what a call returns that is lent too short a slice for its answer: a mistake of the caller's, and no refusal. Document 01's numbers end at 13.
+-- what a call returns that is lent too short a slice for its answer: a mistake of the caller's, and no refusal. The refusals' numbers end at 15, and
+-- document 02's at 26.
 abbrev pub SHORT-VALUES : ℕ
 SHORT-VALUES = 255
 
--- a slice with fewer entries than are needed is left as it was, whatever would be answered; else the values stand at its front
+-- a slice with fewer entries than the call names is left as it was, whatever would be answered, and so is one with fewer than there are values, so that
+-- none is dropped; else the values stand at its front. The calls of the boundary name numbers that their rows fit, so the second test never decides there.
 abbrev pub into : {E : Type 0} (least number : ℕ) (row old : List E) → Handed E
-into least number row old = if ltb (length old) least then handed SHORT-VALUES old else handed number (row ++ drop (length row) old)
+into least number row old =
+    if ltb (length old) least || ltb (length old) (length row) then handed SHORT-VALUES old else handed number (row ++ drop (length row) old)
+
+-- so many entries are enough for what is said
+abbrev pub Fits : {A : Type 0} (least : ℕ) (row : A → List ℕ) → Said A → Type 0
+Fits least row said = length (valuesSaid row said) ≤ least
+
+-- .. and for a refusal, whatever an answer's row is
+abbrev pub Brief : {A : Type 0} (least : ℕ) → Said A → Type 0
+Brief least said = Fits least (λ a. []) said
 
 -- a call that says this
 unfoldable pub says : {A : Type 0} (least : ℕ) (row : A → List ℕ) (said : Said A) (old : List ℕ) → Handed ℕ

@@ -24,12 +24,21 @@ ghost use Rattle.templates.specs.Answer.{saidVersion, saidCoded, saidTemplate, 
 ghost use Rattle.templates.specs.Says.{startOf, lenOf};
 ghost use Rattle.walked.specs.Answer.{saidPlace};
 ghost use Rattle.dust.specs.Answer.{saidDust};
-ghost use Rattle.hand.specs.Handed.{handed, says, gives, reads, one, yes, maybe, twoOf, sortRow, kindRow};
+ghost use Rattle.hand.specs.Handed.{handed, into, says, gives, reads, one, yes, maybe, twoOf, sortRow, kindRow};
 
 // What a call returns that is lent too short a slice for its answer, whatever the answer would be. It then changes nothing. That is no refusal.
 pub const SHORT_VALUES: u32 = 255;
 
-// A refusal: its number, and its value, where it has one, in this entry, if the slice has it.
+// A value in this entry, if the slice has it.
+fn put(values: &mut [u64], at: usize, n: usize)
+    ensures { λ _. ⌜ now (values .exit) ≡ sets (now (values .entry)) at (n ∷ []) ⌝ }
+{
+    if at < values.len() {
+        values[at] = n as u64;
+    }
+}
+
+// A refusal: its number, and its values from this entry on, as far as the slice has entries for them.
 pub fn refusal(why: Refusal, values: &mut [u64], at: usize) -> u32
     ensures { λ r. ⌜ (r ≡ refusals.numberOf why) × (now (values .exit) ≡ sets (now (values .entry)) at (refusals.valuesOf why)) ⌝ }
 {
@@ -37,14 +46,30 @@ pub fn refusal(why: Refusal, values: &mut [u64], at: usize) -> u32
     let value = why.value();
     match value {
         Value::Is(n) => {
+            put(values, at, n);
+            number
+        }
+        Value::Both(n, m) => {
             if at < values.len() {
-                values[at] = n as u64;
+                put(values, at, n);
+                put(values, at + 1, m);
                 return number;
             }
             number
         }
         Value::Nothing => number,
     }
+}
+
+// A refusal at the slice's front. A slice without room for all its values is left as it was.
+fn refused(why: Refusal, values: &mut [u64]) -> u32
+    ensures { λ r. ⌜ handed r (now (values .exit)) ≡ into 0 (refusals.numberOf why) (refusals.valuesOf why) (now (values .entry)) ⌝ }
+{
+    let value = why.value();
+    if values.len() < value.len() {
+        return SHORT_VALUES;
+    }
+    refusal(why, values, 0)
 }
 
 // A count.
@@ -59,7 +84,7 @@ pub fn count(answer: Counted, values: &mut [u64]) -> u32
             values[0] = n as u64;
             0
         }
-        Counted::Refused(why) => refusal(why, values, 0),
+        Counted::Refused(why) => refused(why, values),
     }
 }
 
@@ -75,7 +100,7 @@ pub fn dust(answer: Dust, values: &mut [u64]) -> u32
             values[0] = n;
             0
         }
-        Dust::Refused(why) => refusal(why, values, 0),
+        Dust::Refused(why) => refused(why, values),
     }
 }
 
@@ -98,7 +123,7 @@ pub fn judged(answer: Judged, values: &mut [u64]) -> u32
             values[0] = bit(answer);
             0
         }
-        Judged::Refused(why) => refusal(why, values, 0),
+        Judged::Refused(why) => refused(why, values),
     }
 }
 
@@ -191,7 +216,7 @@ pub fn version(answer: Version, values: &mut [u64]) -> u32
             values[0] = 0;
             0
         }
-        Version::Refused(why) => refusal(why, values, 0),
+        Version::Refused(why) => refused(why, values),
     }
 }
 
@@ -212,7 +237,7 @@ pub fn coded(answer: Coded, values: &mut [u64]) -> u32
             values[0] = 0;
             0
         }
-        Coded::Refused(why) => refusal(why, values, 0),
+        Coded::Refused(why) => refused(why, values),
     }
 }
 
@@ -234,7 +259,7 @@ pub fn place(answer: Place, values: &mut [u64]) -> u32
             values[0] = 0;
             0
         }
-        Place::Refused(why) => refusal(why, values, 0),
+        Place::Refused(why) => refused(why, values),
     }
 }
 
@@ -280,6 +305,6 @@ pub fn kind(answer: Kinded, values: &mut [u64]) -> u32
             values[0] = kind_number(kind);
             0
         }
-        Kinded::Refused(why) => refusal(why, values, 0),
+        Kinded::Refused(why) => refused(why, values),
     }
 }

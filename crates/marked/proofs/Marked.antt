@@ -2,7 +2,7 @@
 use mathlib.Core.Path.{_≡_, refl}
 use Rattle.pool.specs.Text.{decimal, digits}
 use Rattle.pool.specs.Names.{nameOf}
-use Rattle.script.specs.Script.{readLE, assign, sized, operand, getScriptOp, checkMinimalPush}
+use Rattle.script.specs.Script.{readLE, assign, sized, operand, getScriptOp, assignLacks, sizedLacks, operandLacks, lacks, checkMinimalPush}
 use Rattle.script.specs.Walk.{notMinimal, saysLess, cutNotMinimal, walkSays, nextAt}
 use Rattle.script.specs.Calls.{position}
 use Rattle.script.specs.Run.{walkFor, walkFrom}
@@ -33,7 +33,7 @@ use Rattle.marked.specs.Table.{computed, paper}
 
 pub marked : computed ≡ paper
 unfolding
-    isWitnessProgram decimal digits nameOf readLE assign sized operand getScriptOp checkMinimalPush notMinimal saysLess
+    isWitnessProgram decimal digits nameOf readLE assign sized operand getScriptOp assignLacks sizedLacks operandLacks lacks checkMinimalPush notMinimal saysLess
     cutNotMinimal walkSays nextAt position walkFor walkFrom lowBytes serialize setVch nonMinimal scriptNum multisigOps sigOps
     while getSigOpCount countSays getSizeOfCompactSize dustSize dustSays isPayToScriptHash isPayToPubkeyHash isProgramOf
     isPayToAnchor isKeyOf isPayToPubkey isOpReturn isMultisig kindOf hex opcodeText dataText spaceAt dataAt dataLen bodyText textAt

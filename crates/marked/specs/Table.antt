@@ -1,4 +1,5 @@
--- Document 01, 'Marked examples', W1 to W12 and the inspector's: in each line what the definitions compute, and what the paper says of it. Assumes nothing.
+-- Document 01, 'Marked examples', W1 to W12 and the inspector's, W2, W5 and W6 as document 02's 'Two' amends them: in each line what the definitions compute, and what the
+-- paper says of it. Assumes nothing.
 use mathlib.Core.Bool.{true, false}
 use mathlib.Core.List.{List, [], _∷_, _++_, map}
 use mathlib.Core.Option.{none}
@@ -71,9 +72,9 @@ examples =
     (kind W1, ("other", [])) ∷
     -- dust 471
     (dust W1, ("amount", 471 ∷ [])) ∷
-    -- W2 `01`: 3 at 0, both modes
-    (plain W2 0, ("refusal", 3 ∷ 0 ∷ [])) ∷
-    (minimal W2 0, ("refusal", 3 ∷ 0 ∷ [])) ∷
+    -- W2 `01`: 15 at 0, 1 missing, both modes
+    (plain W2 0, ("refusal", 15 ∷ 0 ∷ 1 ∷ [])) ∷
+    (minimal W2 0, ("refusal", 15 ∷ 0 ∷ 1 ∷ [])) ∷
     -- W3 `01 05`: plain push,
     (plain W3 0, ("push", 0 ∷ 0 ∷ 1 ∷ 1 ∷ [])) ∷
     -- minimal 2 at 0
@@ -81,14 +82,14 @@ examples =
     -- W4 `01 00`: push in both
     (plain W4 0, ("push", 0 ∷ 0 ∷ 1 ∷ 1 ∷ [])) ∷
     (minimal W4 0, ("push", 0 ∷ 0 ∷ 1 ∷ 1 ∷ [])) ∷
-    -- W5 `4c 05`: plain 3, minimal 2, at 0
-    (plain W5 0, ("refusal", 3 ∷ 0 ∷ [])) ∷
+    -- W5 `4c 05`: plain 15, 5 missing, minimal 2, at 0
+    (plain W5 0, ("refusal", 15 ∷ 0 ∷ 5 ∷ [])) ∷
     (minimal W5 0, ("refusal", 2 ∷ 0 ∷ [])) ∷
-    -- W6 `51 4c`: opcode, then 3 at 1
+    -- W6 `51 4c`: opcode, then 14 at 1, 1 missing
     (plain W6 0, ("opcode", 0 ∷ 0x51 ∷ [])) ∷
-    (plain W6 1, ("refusal", 3 ∷ 1 ∷ [])) ∷
+    (plain W6 1, ("refusal", 14 ∷ 1 ∷ 1 ∷ [])) ∷
     (minimal W6 0, ("opcode", 0 ∷ 0x51 ∷ [])) ∷
-    (minimal W6 1, ("refusal", 3 ∷ 1 ∷ [])) ∷
+    (minimal W6 1, ("refusal", 14 ∷ 1 ∷ 1 ∷ [])) ∷
     -- text `OP_PUSHNUM_1<unexpected end>`
     (asm W6, ("bytes", text "OP_PUSHNUM_1<unexpected end>")) ∷
     -- W7 `4d 00 01` and 256 bytes: one push

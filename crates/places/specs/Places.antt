@@ -12,7 +12,7 @@ use Rattle.script.specs.Run.{walkFrom, items, ending}
 unfoldable pub placesOf : Bool → List ℕ → List ℕ
 placesOf minimal s = map placeOf (items (walkFrom minimal s 0))
 
--- all, with their count as the answer, or refusal 1, 2, 3 or 7
+-- all, with their count as the answer, or refusal 1, 2, 14, 15 or 7
 unfoldable pub positionsSay : Bool → List ℕ → ℕ → Said ℕ
 positionsSay minimal s room = unless (ending (walkFrom minimal s 0)) (writes (placesOf minimal s) room)
 

@@ -54,7 +54,7 @@ fn write_places(script: &[u8], mode: Mode, table: &mut [u32])
     }
 }
 
-// The start places of all instructions of a script, written from the table's front, and how many there are. Refused with 1, 2 or 3 where the
+// The start places of all instructions of a script, written from the table's front, and how many there are. Refused with 1, 2, 14 or 15 where the
 // walk is, and with 7 and the entries needed where the table is short; a refused call leaves the table.
 pub fn positions(script: &[u8], mode: Mode, table: &mut [u32]) -> Counted
     ensures { λ r. ⌜ (saidCount r ≡ positionsSay (isMinimal mode) (now (script .entry)) (length (now (table .entry)))) × (now (table .exit) ≡ after (positionsSay (isMinimal mode) (now (script .entry)) (length (now (table .entry)))) (placesOf (isMinimal mode) (now (script .entry))) (now (table .entry))) ⌝ }

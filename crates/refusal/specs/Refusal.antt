@@ -1,4 +1,5 @@
--- Document 01's table 'Refusals by number': the number of each refusal, and the values that its line names. Assumes nothing.
+-- Document 01's table 'Refusals by number', with document 02's 'Two': the number of each refusal, and the values that its line names. Number 3 is retired.
+-- Assumes nothing.
 use Prim.Native.Nat.{ℕ}
 use mathlib.Core.List.{List, [], _∷_}
 use lib.Dec.{ltb}
@@ -9,7 +10,6 @@ use Rattle.refusal.specs.declared.Refusal.{Refusal}
 use Rattle.refusal.specs.declared.Refusal.the-variants.{
   TooLong,
   NonMinimal,
-  EarlyEnd,
   NumberTooLong,
   NumberNotMinimal,
   NumberOutOfRange,
@@ -20,13 +20,14 @@ use Rattle.refusal.specs.declared.Refusal.the-variants.{
   ProgramLengthV0,
   BadVersion,
   BadBuilder,
+  LengthCut,
+  BodyCut,
 }
 
 -- the column 'No.'
 abbrev pub numberOf : Refusal → ℕ
 numberOf TooLong = 1
 numberOf (NonMinimal place) = 2
-numberOf (EarlyEnd place) = 3
 numberOf NumberTooLong = 4
 numberOf NumberNotMinimal = 5
 numberOf NumberOutOfRange = 6
@@ -37,12 +38,13 @@ numberOf ProgramLength = 10
 numberOf ProgramLengthV0 = 11
 numberOf BadVersion = 12
 numberOf BadBuilder = 13
+numberOf (LengthCut place missing) = 14
+numberOf (BodyCut place missing) = 15
 
--- what the column 'Name' has behind the name: a place, or the bytes or entries needed
+-- what the column 'Name' has behind the name: a place, or the bytes or entries needed; 'Both keep the place and add how many bytes are missing'
 abbrev pub valuesOf : Refusal → List ℕ
 valuesOf TooLong = []
 valuesOf (NonMinimal place) = place ∷ []
-valuesOf (EarlyEnd place) = place ∷ []
 valuesOf NumberTooLong = []
 valuesOf NumberNotMinimal = []
 valuesOf NumberOutOfRange = []
@@ -53,6 +55,8 @@ valuesOf ProgramLength = []
 valuesOf ProgramLengthV0 = []
 valuesOf BadVersion = []
 valuesOf BadBuilder = []
+valuesOf (LengthCut place missing) = place ∷ missing ∷ []
+valuesOf (BodyCut place missing) = place ∷ missing ∷ []
 
 -- a refusal, as an entry says it
 abbrev pub saidRefusal : {A : Type 0} → Refusal → Said A

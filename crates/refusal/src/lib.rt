@@ -1,16 +1,15 @@
-// The refusals of document 01, and the two answers that most entries give.
+// The refusals of document 01 as document 02 amends them, and the two answers that most entries give.
 ghost use mathlib.Core.Path.{_≡_};
+ghost use lib.ListN.{length};
 ghost use Rattle.refusal.specs.Refusal.{numberOf, valuesOf};
 ghost use Rattle.refusal.specs.Answer.{saidValue};
 
-// One variant for each line of document 01's table, holding that line's values.
+// One variant for each line of document 01's table as document 02 amends it, holding that line's values. Number 3 is retired: 14 and 15 are in its place.
 pub enum Refusal {
     // 1: an input or a built script is longer than MAX_SCRIPT bytes.
     TooLong,
     // 2: minimal mode, and the push that starts at this place has a shorter form.
     NonMinimal(usize),
-    // 3: the push that starts at this place is cut, in its length bytes or in its body.
-    EarlyEnd(usize),
     // 4: a number to be read has too many bytes.
     NumberTooLong,
     // 5: the strict reader was given bytes that the writer would not write.
@@ -31,11 +30,16 @@ pub enum Refusal {
     BadVersion,
     // 13: the builder does not fit its buffer.
     BadBuilder,
+    // 14: the push that starts at this place lacks this many of its length bytes.
+    LengthCut(usize, usize),
+    // 15: the push that starts at this place lacks this many bytes of its body.
+    BodyCut(usize, usize),
 }
 
-// The value that stands beside a refusal's number, where there is one.
+// What stands beside a refusal's number: one value, two, or nothing.
 pub enum Value {
     Is(usize),
+    Both(usize, usize),
     Nothing,
 }
 
@@ -43,14 +47,13 @@ pub enum Value {
 pub const MAX_SCRIPT: usize = 4_194_304;
 
 impl Refusal {
-    // The refusal's number in document 01.
+    // The refusal's number.
     pub fn number(self) -> u32
         ensures { λ r. ⌜ r ≡ numberOf self ⌝ }
     {
         match self {
             Refusal::TooLong => 1,
             Refusal::NonMinimal(_) => 2,
-            Refusal::EarlyEnd(_) => 3,
             Refusal::NumberTooLong => 4,
             Refusal::NumberNotMinimal => 5,
             Refusal::NumberOutOfRange => 6,
@@ -61,17 +64,18 @@ impl Refusal {
             Refusal::ProgramLengthV0 => 11,
             Refusal::BadVersion => 12,
             Refusal::BadBuilder => 13,
+            Refusal::LengthCut(_, _) => 14,
+            Refusal::BodyCut(_, _) => 15,
         }
     }
 
-    // What stands beside the number: a place, what is needed, or nothing.
+    // What stands beside the number: a place, what is needed, a place and what is missing, or nothing.
     pub fn value(self) -> Value
         ensures { λ r. ⌜ saidValue r ≡ valuesOf self ⌝ }
     {
         match self {
             Refusal::TooLong => Value::Nothing,
             Refusal::NonMinimal(place) => Value::Is(place),
-            Refusal::EarlyEnd(place) => Value::Is(place),
             Refusal::NumberTooLong => Value::Nothing,
             Refusal::NumberNotMinimal => Value::Nothing,
             Refusal::NumberOutOfRange => Value::Nothing,
@@ -82,6 +86,21 @@ impl Refusal {
             Refusal::ProgramLengthV0 => Value::Nothing,
             Refusal::BadVersion => Value::Nothing,
             Refusal::BadBuilder => Value::Nothing,
+            Refusal::LengthCut(place, missing) => Value::Both(place, missing),
+            Refusal::BodyCut(place, missing) => Value::Both(place, missing),
+        }
+    }
+}
+
+impl Value {
+    // How many values these are.
+    pub fn len(self) -> usize
+        ensures { λ r. ⌜ r ≡ length (saidValue self) ⌝ }
+    {
+        match self {
+            Value::Is(_) => 1,
+            Value::Both(_, _) => 2,
+            Value::Nothing => 0,
         }
     }
 }

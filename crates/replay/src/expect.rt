@@ -6,6 +6,7 @@ use opcodes::Code;
 use refusal::Counted;
 use refusal::Judged;
 use refusal::Refusal;
+use refusal::Value;
 
 // No place: nothing agrees from there on.
 pub(crate) const MISS: usize = usize::MAX;
@@ -44,13 +45,14 @@ pub(crate) fn value(want: &[u8], n: u64) -> usize {
     number(want, at, n)
 }
 
+// The refusal's number, and then its values.
 pub(crate) fn refused(want: &[u8], at: usize, r: Refusal) -> usize {
     let next = number(want, at, r.number() as u64);
-    match r {
-        Refusal::NonMinimal(place) => size(want, next, place),
-        Refusal::EarlyEnd(place) => size(want, next, place),
-        Refusal::NoRoom(needed) => size(want, next, needed),
-        _ => next,
+    let beside = r.value();
+    match beside {
+        Value::Is(n) => size(want, next, n),
+        Value::Both(n, m) => size(want, size(want, next, n), m),
+        Value::Nothing => next,
     }
 }
 

@@ -1,5 +1,5 @@
 -- Demand 3 as one theorem: each part is a law of one call or of the calls so far, at the position that these calls reach. Assumes nothing.
-use mathlib.Core.Path.{_≡_, sym, ap, _∙_}
+use mathlib.Core.Path.{_≡_, sym, subst, _∙_}
 use mathlib.Core.Bool.{Bool, true}
 use mathlib.Core.List.{List, [], _∷_}
 use Prim.Native.Nat.{ℕ, _≤_}
@@ -7,7 +7,7 @@ use lib.ListN.{length}
 use Rattle.refusal.specs.Refusal.{limit}
 use Rattle.script.specs.Instruction.{Instruction, Bytes, Stands, allowed, Each}
 use Rattle.script.specs.Calls.{position, handed, NoRefusal}
-use Rattle.script.specs.Demand.{AfterCalls, NoByteLost}
+use Rattle.script.specs.Demand.{NamesPlace, AfterCalls, NoByteLost}
 use Rattle.script.proofs.Reading.{one-reading}
 use Rattle.script.proofs.Exactly as one
 use Rattle.script.proofs.Handed as calls
@@ -35,7 +35,7 @@ module _ (minimal : Bool) (s : List ℕ) (l : length s ≤ limit) (bytes : Bytes
         refusal-names =
             λ number values e.
             let t = one.refusal-is minimal s l p bytes w number values e in
-            (t .0, t .1 ∙ ap (λ (q : ℕ). q ∷ []) (sym a), t .2);
+            (subst (λ (q : ℕ). NamesPlace q number values) (sym a) (t .0), t .1);
         ends-exactly = one.ends-exactly minimal s l p;
         hands-exactly = one.hands-exactly minimal s l p bytes;
       }

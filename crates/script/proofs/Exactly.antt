@@ -1,7 +1,7 @@
 -- When one call hands out an instruction, refuses or says end: there is an instruction of the mode whose bytes stand at the position, there is
 -- none though bytes remain, no byte remains. Assumes nothing.
 use mathlib.Core.Path.{_≡_, refl, sym, _∙_, subst}
-use mathlib.Core.Logic.{_↔_, _⊎_, inl, inr, ⊎-elim}
+use mathlib.Core.Logic.{_↔_, inl, inr, ⊎-elim}
 use mathlib.Core.Bool.{Bool, false, _&&_, and-false}
 use mathlib.Core.List.{List, [], _∷_}
 use Prim.Native.Nat.{ℕ, suc, _+_, _≤_, _<_}
@@ -14,12 +14,13 @@ use Rattle.laws.proofs.Test.{by-test, lt-or-le}
 use Rattle.laws.proofs.Part.{part-bytes}
 use Rattle.refusal.specs.Refusal.{limit}
 use Rattle.opcodes.specs.Opcode.{PushForm, direct, pushdata1, pushdata2, pushdata4, lengthBytes, sortOf}
-use Rattle.script.specs.Script.{ScriptOp, fails, reads, getScriptOp}
+use Rattle.script.specs.Script.{ScriptOp, fails, reads, getScriptOp, Lack, ofLength, ofBody, lacks}
 use Rattle.script.specs.Steps.{stated}
-use Rattle.script.specs.Walk.{Walked, end, found, walked, notMinimal, cutNotMinimal, judged, walkSays, moved, nextAt}
+use Rattle.script.specs.Walk.{Walked, end, found, walked, notMinimal, cutNotMinimal, cut, judged, walkSays, moved, nextAt}
 use Rattle.script.specs.Walk as walk
 use Rattle.script.specs.Instruction.{Instruction, opcode, push, Bytes, Stands, opcodeOf, writeLE, size, wasteful, codeOf, dataOf, StandsAt}
 use Rattle.script.specs.Calls.{given}
+use Rattle.script.specs.Demand.{NamesPlace}
 use Rattle.script.proofs.Minimal.{IsOf, minimal-same}
 use Rattle.script.proofs.Step.{bad-cursor, at-end, inside, push-code, stated-most}
 use Rattle.script.proofs.Good.{OpcodeAt, PushAt, good-answer}
@@ -73,7 +74,7 @@ module _ (minimal : Bool) (s : List ℕ) (bytes : Bytes s) (at : ℕ) where
 -- a refusal that names its position
 abbrev Place : ℕ → Said Walked → Type 0
 Place at (answers w) = Unit {0}
-Place at (refuses number values) = ((number ≡ 2) ⊎ (number ≡ 3)) × (values ≡ at ∷ [])
+Place at (refuses number values) = NamesPlace at number values
 
 module _ (minimal : Bool) (s : List ℕ) (l : length s ≤ limit) (at : ℕ) where
   -- A call says end exactly if no byte remains.
@@ -90,9 +91,13 @@ module _ (minimal : Bool) (s : List ℕ) (l : length s ≤ limit) (at : ℕ) whe
   refusal-place : at < length s → (number : ℕ) (values : List ℕ) → walkSays minimal s at ≡ refuses number values → Place at (refuses number values)
   refusal-place h number values e = subst (Place at) (sym (inside minimal s at l h) ∙ e) (placed (getScriptOp s at))
     where
+      cut-placed : (k : Lack) → Place at (cut at k)
+      cut-placed (ofLength missing) = inr (inl refl, (missing, refl))
+      cut-placed (ofBody missing) = inr (inr refl, (missing, refl))
+
       placed : (o : ScriptOp) → Place at (judged minimal s at o)
-      placed fails = by-test (Place at) (minimal && cutNotMinimal s at) (λ t. (inl refl, refl)) (λ t. (inr refl, refl))
-      placed (reads code vch pc) = by-test (Place at) (minimal && notMinimal code vch) (λ t. (inl refl, refl)) (λ t. tt)
+      placed fails = by-test (Place at) (minimal && cutNotMinimal s at) (λ t. inl (refl, refl)) (λ t. cut-placed (lacks s at))
+      placed (reads code vch pc) = by-test (Place at) (minimal && notMinimal code vch) (λ t. inl (refl, refl)) (λ t. tt)
 
   -- what Core reads and the mode takes is no refusal
   standing-answers : (i : Instruction) → StandsAt minimal s at i → walkSays minimal s at ≡ answers (found (walked (sortOf (codeOf i)) at (codeOf i) (length (dataOf i))))
@@ -134,15 +139,16 @@ module _ (minimal : Bool) (s : List ℕ) (l : length s ≤ limit) (at : ℕ) whe
         go h none (hands i a g n) = absurd (none i a)
         go h none (refused number values r) = (number, values, r)
 
-    -- Its number is 2 or 3, its value is the position, and the next cursor is at the script's end.
+    -- Its number is 2, 14 or 15, its first value is the position, and the next cursor is at the script's end.
     pub refusal-is : at ≤ length s → (number : ℕ) (values : List ℕ) → walkSays minimal s at ≡ refuses number values
-        → ((number ≡ 2) ⊎ (number ≡ 3)) × (values ≡ at ∷ []) × (nextAt minimal s at ≡ length s)
+        → NamesPlace at number values × (nextAt minimal s at ≡ length s)
     unfolding nextAt
-    refusal-is w number values e = let p = refusal-place (refused-inside w number values e) number values e in (p .0, p .1, rw e (to-end (p .0)))
+    refusal-is w number values e = let p = refusal-place (refused-inside w number values e) number values e in (p, rw e (to-end p))
       where
-        to-end : (number ≡ 2) ⊎ (number ≡ 3) → moved (refuses number values) s at ≡ length s
-        to-end (inl two) = rw two
-        to-end (inr three) = rw three
+        to-end : NamesPlace at number values → moved (refuses number values) s at ≡ length s
+        to-end (inl two) = rw (two .0)
+        to-end (inr (inl length-cut, m)) = rw length-cut
+        to-end (inr (inr body-cut, m)) = rw body-cut
 
     given-hands : (i : Instruction) → given s (walkSays minimal s at) ≡ i ∷ [] → StandsAt minimal s at i × (nextAt minimal s at ≡ at + size i)
     given-hands i e =

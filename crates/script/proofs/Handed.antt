@@ -49,7 +49,7 @@ module _ (minimal : Bool) (s : List ℕ) (l : length s ≤ limit) (bytes : Bytes
       go (hands i a g n) =
           let f = bytes-laid s at i (a .bytes) in
           inr (omega (arith, size-is i), omega (arith, f .fits))
-      go (refused number values r) = inl (refusal-is minimal s l at bytes w number values r .2)
+      go (refused number values r) = inl (refusal-is minimal s l at bytes w number values r .1)
 
   -- what a call hands out are the bytes that it moves past
   record Kept (at : ℕ) (xs : List Instruction) : Type 0 where
@@ -115,7 +115,7 @@ module _ (minimal : Bool) (s : List ℕ) (l : length s ≤ limit) (bytes : Bytes
 
   -- ---- the end
 
-  stays : (n m : ℕ) → n ≤ m → position minimal s n ≡ length s → position minimal s m ≡ length s
+  pub stays : (n m : ℕ) → n ≤ m → position minimal s n ≡ length s → position minimal s m ≡ length s
   unfolding position
   stays n zero h e = let z : n ≡ 0 = omega arith in rw z at e
   stays n (suc m) h e =
@@ -144,4 +144,4 @@ module _ (minimal : Bool) (s : List ℕ) (l : length s ≤ limit) (bytes : Bytes
   unfolding position
   after-refusal n m number values e h =
       at-end minimal s (position minimal s m) l
-      (sym (stays (suc n) m h (refusal-is minimal s l (position minimal s n) bytes (position-within n) number values e .2)))
+      (sym (stays (suc n) m h (refusal-is minimal s l (position minimal s n) bytes (position-within n) number values e .1)))

@@ -12,3 +12,5 @@ pub mod Handed
 pub mod Core
 pub mod Demand
 pub mod Whole
+pub mod Cut
+pub mod Mended

@@ -17,7 +17,22 @@ use Rattle.laws.proofs.Test.{by-test, lt-or-le}
 use Rattle.refusal.specs.Refusal.{limit}
 use Rattle.opcodes.specs.Opcode.{PushForm, direct, pushdata1, pushdata2, pushdata4, lengthBytes, Sort, sortOf}
 use Rattle.opcodes.specs.Opcode as sort
-use Rattle.script.specs.Script.{ScriptOp, fails, reads, assign, sized, operand, getScriptOp}
+use Rattle.script.specs.Script.{
+  ScriptOp,
+  fails,
+  reads,
+  assign,
+  sized,
+  operand,
+  getScriptOp,
+  Lack,
+  ofLength,
+  ofBody,
+  assignLacks,
+  sizedLacks,
+  operandLacks,
+  lacks,
+}
 use Rattle.script.specs.Walk.{
   Walked,
   end,
@@ -100,6 +115,10 @@ same-test n p k h =
     (λ g. rw (le-ltb (n - p) k (omega arith), le-ltb n (p + k) g))
     (lt-or-le n (p + k))
 
+-- `k - (end - pc)` and `pc + k - end`
+same-lack : (n p k : ℕ) → p ≤ n → k - (n - p) ≡ p + k - n
+same-lack n p k h = omega arith
+
 module _ (s : List ℕ) (at : ℕ) (h : at < length s) where
   pub opcode-read : 78 < getD s at 0 → getScriptOp s at ≡ reads (getD s at 0) [] (at + 1)
   unfolding getScriptOp operand
@@ -118,6 +137,23 @@ module _ (s : List ℕ) (at : ℕ) (h : at < length s) where
   push-read pushdata1 o = simp (lt-leb (length s) at h, o, same-test (length s) (at + 1) 1 (omega arith))
   push-read pushdata2 o = simp (lt-leb (length s) at h, o, same-test (length s) (at + 1) 2 (omega arith))
   push-read pushdata4 o = simp (lt-leb (length s) at h, o, same-test (length s) (at + 1) 4 (omega arith))
+
+  pub opcode-lacks : 78 < getD s at 0 → lacks s at ≡ ofBody 0
+  unfolding lacks operandLacks
+  opcode-lacks o = rw (lt-leb _ _ o)
+
+  -- what it lacks where it fails
+  abbrev pub bodyLacks : PushForm → Lack
+  bodyLacks form =
+      if ltb (length s) (at + 1 + lengthBytes form) then ofLength (at + 1 + lengthBytes form - length s)
+      else ofBody (stated (lengthBytes form) s at - (length s - (at + 1 + lengthBytes form)))
+
+  pub push-lacks : (form : PushForm) → IsOf form (getD s at 0) → lacks s at ≡ bodyLacks form
+  unfolding lacks operandLacks sizedLacks assignLacks stated
+  push-lacks direct o = simp (le-leb (getD s at 0) 78 (omega arith), lt-ltb _ _ o, add-zero, le-ltb (length s) (at + 1) (omega arith))
+  push-lacks pushdata1 o = simp (o, same-test (length s) (at + 1) 1 (omega arith), same-lack (length s) (at + 1) 1 (omega arith))
+  push-lacks pushdata2 o = simp (o, same-test (length s) (at + 1) 2 (omega arith), same-lack (length s) (at + 1) 2 (omega arith))
+  push-lacks pushdata4 o = simp (o, same-test (length s) (at + 1) 4 (omega arith), same-lack (length s) (at + 1) 4 (omega arith))
 
 -- ---- a push, in the order of the code
 
@@ -202,31 +238,50 @@ module _ (s : List ℕ) (at : ℕ) (form : PushForm) (k : sortOf (getD s at 0) �
   stated-most b pushdata2 o = omega (arith, le-below s b 2 (at + 1))
   stated-most b pushdata4 o = omega (arith, le-below s b 4 (at + 1))
 
-  -- the verdict on a push whose length bytes are there
-  module _ (minimal : Bool) (bytes : Bytes s) (l : length s ≤ limit) (h : at < length s) where
-    pub length-cut : length s < start → walkSays minimal s at ≡ refuses 3 (at ∷ [])
+  -- what a call says of it
+  module _ (minimal : Bool) (l : length s ≤ limit) (h : at < length s) where
+    form-read : getScriptOp s at ≡ readBody s at h form
+    form-read = push-read s at h form (push-code (getD s at 0) form k)
+
+    form-lacks : lacks s at ≡ bodyLacks s at h form
+    form-lacks = push-lacks s at h form (push-code (getD s at 0) form k)
+
+    pub length-cut : length s < start → walkSays minimal s at ≡ refuses 14 (at ∷ (start - length s) ∷ [])
     length-cut c =
-        inside minimal s at l h
-        ∙ rw (push-read s at h form (push-code (getD s at 0) form k), lt-ltb (length s) start c, cut-length c, and-false)
+        let short = lt-ltb (length s) start c in
+        inside minimal s at l h ∙ rw (form-read, short, cut-length c, and-false, form-lacks, short)
 
     module _ (there : start ≤ length s) where
       read : getScriptOp s at ≡ assign (getD s at 0) says s start
-      read = rw (push-read s at h form (push-code (getD s at 0) form k), le-ltb (length s) start there)
+      read = rw (form-read, le-ltb (length s) start there)
 
-      pub verdict : walkSays minimal s at
-          ≡ (if minimal && shortForm form s start says then refuses 2 (at ∷ [])
-          else if ltb (length s - start) says then refuses 3 (at ∷ [])
+      pub body-cut : length s - start < says
+          → walkSays minimal s at ≡ (if minimal && cutNotMinimal s at then refuses 2 (at ∷ []) else refuses 15 (at ∷ (says - (length s - start)) ∷ []))
+      unfolding assign
+      body-cut c = inside minimal s at l h ∙ rw (read, lt-ltb (length s - start) says c, form-lacks, le-ltb (length s) start there)
+
+      pub whole-push : says ≤ length s - start
+          → walkSays minimal s at
+          ≡ (if minimal && notMinimal (getD s at 0) (take says (drop start s)) then refuses 2 (at ∷ [])
           else answers (found (push at form start says)))
       unfolding assign
-      verdict =
-          inside minimal s at l h
-          ∙ ⊎-elim
-          (λ (c : length s - start < says). rw (read, lt-ltb (length s - start) says c, cut-body there c))
+      whole-push w =
+          let n : length (take says (drop start s)) ≡ says = length-take-le says (drop start s) (simp length-drop w) in
+          inside minimal s at l h ∙ rw (read, le-ltb (length s - start) says w, k, n)
+
+      -- the verdict on a push whose length bytes are there
+      pub verdict : Bytes s → walkSays minimal s at
+          ≡ (if minimal && shortForm form s start says then refuses 2 (at ∷ [])
+          else if ltb (length s - start) says then refuses 15 (at ∷ (says - (length s - start)) ∷ [])
+          else answers (found (push at form start says)))
+      verdict bytes =
+          ⊎-elim
+          (λ (c : length s - start < says). body-cut c ∙ rw (lt-ltb (length s - start) says c, cut-body there c))
           (λ (w : says ≤ length s - start).
           let n : length (take says (drop start s)) ≡ says = length-take-le says (drop start s) (simp length-drop w) in
           let same = minimal-same form (getD s at 0) (take says (drop start s)) (push-code (getD s at 0) form k) (λ e. stated-direct form e ∙ sym n)
           (rw n (stated-most bytes form (push-code (getD s at 0) form k))) in
-          rw (read, le-ltb (length s - start) says w, same, ← body-wasteful form s start says (omega arith), k, n))
+          whole-push w ∙ rw (le-ltb (length s - start) says w, same, ← body-wasteful form s start says (omega arith)))
           (lt-or-le (length s - start) says)
 
 -- ---- the answers of the code
@@ -259,21 +314,22 @@ module _ (minimal : Bool) (s : List ℕ) (at : ℕ) (form : PushForm) (sort-of :
   abbrev Right : Said Walked → ℕ → Type 0
   Right a q = (a ≡ walkSays minimal s at) × (q ≡ nextAt minimal s at)
 
-  pub says-length-cut : length s < at + 1 + k → Right (refuses 3 (at ∷ [])) (length s)
-  says-length-cut c = settles minimal s at _ _ (length-cut s at form sort-of minimal bytes l h (rw k-is at c)) refl
+  pub says-length-cut : length s < at + 1 + k → Right (refuses 14 (at ∷ (at + 1 + k - length s) ∷ [])) (length s)
+  says-length-cut c = settles minimal s at _ _ (rw k-is (length-cut s at form sort-of minimal l h (rw k-is at c))) refl
 
   module _ (n-is : n ≡ stated k s at) (there : at + 1 + k ≤ length s) where
     body-says : walkSays minimal s at
         ≡ (if tooShort minimal form s (at + 1 + k) n then refuses 2 (at ∷ [])
-        else if ltb (length s - (at + 1 + k)) n then refuses 3 (at ∷ [])
+        else if ltb (length s - (at + 1 + k)) n then refuses 15 (at ∷ (n - (length s - (at + 1 + k))) ∷ [])
         else answers (found (push at form (at + 1 + k) n)))
     unfolding tooShort
-    body-says = rw (n-is, k-is) (verdict s at form sort-of minimal bytes l h (rw k-is at there))
+    body-says = rw (n-is, k-is) (verdict s at form sort-of minimal l h (rw k-is at there) bytes)
 
     pub says-short : tooShort minimal form s (at + 1 + k) n ≡ true → Right (refuses 2 (at ∷ [])) (length s)
     says-short e = settles minimal s at _ _ (body-says ∙ rw e) refl
 
-    pub says-body-cut : tooShort minimal form s (at + 1 + k) n ≡ false → length s - (at + 1 + k) < n → Right (refuses 3 (at ∷ [])) (length s)
+    pub says-body-cut : tooShort minimal form s (at + 1 + k) n ≡ false → length s - (at + 1 + k) < n
+        → Right (refuses 15 (at ∷ (n - (length s - (at + 1 + k))) ∷ [])) (length s)
     says-body-cut e c = settles minimal s at _ _ (body-says ∙ rw (e, lt-ltb _ _ c)) refl
 
     pub says-push : tooShort minimal form s (at + 1 + k) n ≡ false → n ≤ length s - (at + 1 + k) → Right (answers (found (push at form (at + 1 + k) n))) (at + 1 + k + n)

@@ -2,16 +2,15 @@
 -- Assumes nothing.
 use mathlib.Core.Path.{_≡_, refl, sym, ap, _∙_}
 use mathlib.Core.Logic.{⊎-elim}
-use mathlib.Core.Bool.{Bool, _||_}
+use mathlib.Core.Bool.{Bool}
 use mathlib.Core.List.{List, [], _∷_, _++_, map, append-nil, append-assoc}
 use Prim.Native.Nat.{ℕ, zero, suc, _+_, _-_, _≤_, _<_}
 use native.Mathlib.Omega.{arith}
-use lib.Dec.{eqb}
 use lib.ListN.{length}
 use Rattle.laws.specs.Said.{Said, answers, refuses}
 use Rattle.laws.proofs.Test.{by-test, lt-or-le}
 use Rattle.refusal.specs.Refusal.{limit}
-use Rattle.script.specs.Walk.{Walked, end, found, walkSays, moved, nextAt}
+use Rattle.script.specs.Walk.{Walked, end, found, walkSays, toEnd, moved, nextAt}
 use Rattle.script.specs.Instruction.{Instruction}
 use Rattle.script.specs.Calls.{position, call, instructionOf, given, handed}
 use Rattle.script.specs.Run.{Run, stop, continue, walkFor, walkFrom, items, ending}
@@ -72,7 +71,7 @@ module _ (minimal : Bool) (s : List ℕ) where
   quiet p (answers end) e g = rw e g
   quiet p (answers (found i)) e g = absurd (let z : _≡_ {A = ℕ} 0 1 = cc in omega arith)
   quiet p (refuses number values) e g =
-      by-test (λ (q : ℕ). given s (walkSays minimal s q) ≡ []) (eqb number 2 || eqb number 3) (λ t. at-length) (λ t. rw e g)
+      by-test (λ (q : ℕ). given s (walkSays minimal s q) ≡ []) (toEnd number) (λ t. at-length) (λ t. rw e g)
 
   no-more : (k j : ℕ) → given s (call minimal s k) ≡ [] → (given s (call minimal s (k + j)) ≡ []) × (handed minimal s (k + j) ≡ handed minimal s k)
   unfolding position handed nextAt

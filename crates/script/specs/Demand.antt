@@ -10,6 +10,12 @@ use Rattle.script.specs.Walk.{end}
 use Rattle.script.specs.Instruction.{Instruction, Stands, encodeAll, sizes, StandsAt, Each}
 use Rattle.script.specs.Calls.{position, call, given, handed, NoRefusal}
 
+-- how a refused push is named: by 2 and its place, or by 14 or 15, its place and how many bytes are missing
+abbrev pub NamesPlace : (place number : ℕ) → List ℕ → Type 0
+NamesPlace place number values =
+    ((number ≡ 2) × (values ≡ place ∷ []))
+    ⊎ (((number ≡ 14) ⊎ (number ≡ 15)) × ((missing : ℕ) × (values ≡ place ∷ missing ∷ [])))
+
 -- after n calls, none of which was refused, and of the call after them
 pub record AfterCalls (minimal : Bool) (s : List ℕ) (n : ℕ) : Type 0 where
   -- 'sizes add up to the position'
@@ -24,7 +30,7 @@ pub record AfterCalls (minimal : Bool) (s : List ℕ) (n : ℕ) : Type 0 where
       ↔ (position minimal s n < length s) × ((i : Instruction) → StandsAt minimal s (position minimal s n) i → ⊥)
   -- 'naming that place and moving to the end': the place is the sum of the sizes
   pub refusal-names : (number : ℕ) (values : List ℕ) → call minimal s n ≡ refuses number values
-      → ((number ≡ 2) ⊎ (number ≡ 3)) × (values ≡ sizes (handed minimal s n) ∷ []) × (position minimal s (suc n) ≡ length s)
+      → NamesPlace (sizes (handed minimal s n)) number values × (position minimal s (suc n) ≡ length s)
   -- 'it says end exactly if no byte remains'
   pub ends-exactly : (call minimal s n ≡ answers end) ↔ (position minimal s n ≡ length s)
   -- else it hands out the allowed instruction that stands there

@@ -5,3 +5,4 @@ pub mod Calls
 pub mod Run
 pub mod Steps
 pub mod Demand
+pub mod Cut

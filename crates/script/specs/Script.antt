@@ -40,6 +40,39 @@ operand opcode s pc =
 unfoldable pub getScriptOp : List ℕ → ℕ → ScriptOp
 getScriptOp s pc = if leb (length s) pc then fails else operand (getD s pc 0) s (pc + 1)
 
+-- what a read that fails lacks: bytes of the length, or bytes of the body
+pub data Lack : Type 0 where
+  ofLength : (missing : ℕ) → Lack
+  ofBody : (missing : ℕ) → Lack
+
+-- how many
+abbrev pub bytesLacking : Lack → ℕ
+bytesLacking (ofLength missing) = missing
+bytesLacking (ofBody missing) = missing
+
+-- if (end - pc < nSize) return false;
+unfoldable pub assignLacks : ℕ → List ℕ → ℕ → Lack
+assignLacks nSize s pc = ofBody (nSize - (length s - pc))
+
+-- if (end - pc < k) return false; nSize = ReadLE(pc); pc += k;
+unfoldable pub sizedLacks : ℕ → List ℕ → ℕ → Lack
+sizedLacks k s pc = if ltb (length s - pc) k then ofLength (k - (length s - pc)) else assignLacks (readLE k s pc) s (pc + k)
+
+-- the immediate operand
+unfoldable pub operandLacks : ℕ → List ℕ → ℕ → Lack
+operandLacks opcode s pc =
+    if leb opcode OP-PUSHDATA4 then
+    (if ltb opcode OP-PUSHDATA1 then assignLacks opcode s pc
+    else if eqb opcode OP-PUSHDATA1 then sizedLacks 1 s pc
+    else if eqb opcode OP-PUSHDATA2 then sizedLacks 2 s pc
+    else if eqb opcode OP-PUSHDATA4 then sizedLacks 4 s pc
+    else assignLacks 0 s pc)
+    else ofBody 0
+
+-- what GetScriptOp lacks where it returns false behind an opcode
+unfoldable pub lacks : List ℕ → ℕ → Lack
+lacks s pc = operandLacks (getD s pc 0) s (pc + 1)
+
 -- CheckMinimalPush
 unfoldable pub checkMinimalPush : List ℕ → ℕ → Bool
 checkMinimalPush vch opcode =

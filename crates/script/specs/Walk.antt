@@ -9,7 +9,7 @@ use Rattle.laws.specs.Said.{Said, answers, refuses, unless}
 use Rattle.refusal.specs.Refusal.{withinLimit}
 use Rattle.opcodes.specs.Opcode.{PushForm, direct, pushdata1, pushdata2, pushdata4, lengthBytes, Sort, sortOf}
 use Rattle.opcodes.specs.Opcode as sort
-use Rattle.script.specs.Script.{ScriptOp, fails, reads, readLE, getScriptOp, checkMinimalPush}
+use Rattle.script.specs.Script.{ScriptOp, fails, reads, readLE, getScriptOp, Lack, ofLength, ofBody, lacks, checkMinimalPush}
 use Rattle.opcodes.specs.Core.{OP-PUSHDATA4}
 
 -- 'The walk': an opcode with its place; a push with place, form, body place and body length
@@ -49,9 +49,14 @@ cutForm sort.plain s place = false
 unfoldable pub cutNotMinimal : List ℕ → ℕ → Bool
 cutNotMinimal s place = cutForm (sortOf (getD s place 0)) s place
 
--- refusal 2 or 3 with the place where the push starts, or the instruction
+-- 'Say what was cut': 14 when the length bytes are short, 15 when the body is; the place, and how many bytes are missing
+abbrev pub cut : ℕ → Lack → Said Walked
+cut place (ofLength missing) = refuses 14 (place ∷ missing ∷ [])
+cut place (ofBody missing) = refuses 15 (place ∷ missing ∷ [])
+
+-- refusal 2, 14 or 15 with the place where the push starts, or the instruction
 abbrev pub judged : Bool → List ℕ → ℕ → ScriptOp → Said Walked
-judged minimal s place fails = if minimal && cutNotMinimal s place then refuses 2 (place ∷ []) else refuses 3 (place ∷ [])
+judged minimal s place fails = if minimal && cutNotMinimal s place then refuses 2 (place ∷ []) else cut place (lacks s place)
 judged minimal s place (reads code vch pc) =
     if minimal && notMinimal code vch then refuses 2 (place ∷ []) else answers (found (walked (sortOf code) place code (length vch)))
 
@@ -83,11 +88,15 @@ sizeSaid (refuses number values) = 0
 unfoldable pub sizeSays : Bool → List ℕ → ℕ → Said ℕ
 sizeSays minimal s at = unless (walkSays minimal s at) (answers (sizeSaid (walkSays minimal s at)))
 
--- the cursor after a call: past the instruction; after 2 and 3 at the script's end; else unchanged
+-- the refusals after which the cursor stands at the script's end
+abbrev pub toEnd : ℕ → Bool
+toEnd number = eqb number 2 || (eqb number 14 || eqb number 15)
+
+-- the cursor after a call: past the instruction; after 2, 14 and 15 at the script's end; else unchanged
 abbrev pub moved : Said Walked → List ℕ → ℕ → ℕ
 moved (answers end) s at = at
 moved (answers (found i)) s at = at + sizeOf i
-moved (refuses number values) s at = if eqb number 2 || eqb number 3 then length s else at
+moved (refuses number values) s at = if toEnd number then length s else at
 
 -- .. after the call at a place
 unfoldable pub nextAt : Bool → List ℕ → ℕ → ℕ

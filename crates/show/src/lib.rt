@@ -38,10 +38,17 @@ pub fn refused(r: Refusal) {
     named(b"refusal", r.number() as usize);
     match r {
         Refusal::NonMinimal(place) => named(b"at", place),
-        Refusal::EarlyEnd(place) => named(b"at", place),
         Refusal::NoRoom(needed) => named(b"needs", needed),
+        Refusal::LengthCut(place, missing) => cut(place, missing),
+        Refusal::BodyCut(place, missing) => cut(place, missing),
         _ => {}
     }
+}
+
+// Where a push is cut, and how many bytes it lacks.
+fn cut(place: usize, missing: usize) {
+    named(b"at", place);
+    named(b"missing", missing);
 }
 
 pub fn counted(answer: Counted) {

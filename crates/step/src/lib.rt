@@ -51,7 +51,7 @@ fn put_two(values: &mut [u64], e: u64, f: u64)
     values[5] = f;
 }
 
-// The place for the next call, and behind it what the walk found.
+// The place for the next call, and behind it what the walk found or a refusal's values.
 fn step(answer: Stepped, values: &mut [u64]) -> u32
     ensures { λ r. ⌜ handed r (now (values .exit)) ≡ steps (answer .next .at) (saidFound (answer .found)) (now (values .entry)) ⌝ }
 {

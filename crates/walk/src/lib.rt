@@ -82,7 +82,7 @@ impl Cursor {
     }
 
     // What stands at the cursor, and the cursor for the next call. Refused with 1 for a script over the limit and with 8 for a cursor past
-    // its end, the cursor unchanged; with 2 or 3 where no instruction that the mode takes stands whole there, the cursor then at the end.
+    // its end, the cursor unchanged; with 2, 14 or 15 where no instruction that the mode takes stands whole there, the cursor then at the end.
     pub fn next(self, script: &[u8], mode: Mode) -> Stepped
         ensures { λ r. ⌜ (saidFound (r .found) ≡ walkSays (isMinimal mode) (now (script .entry)) (self .at)) × (r .next .at ≡ nextAt (isMinimal mode) (now (script .entry)) (self .at)) ⌝ }
     {

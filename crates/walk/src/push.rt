@@ -92,7 +92,7 @@ pub(crate) fn push_at(s: &[u8], at: usize, form: Form, mode: Mode) -> Stepped
     let body = at + 1 + k;
     if n < body {
         return Stepped {
-            found: Found::Refused(Refusal::EarlyEnd(at)),
+            found: Found::Refused(Refusal::LengthCut(at, body - n)),
             next: Cursor { at: n },
         };
     }
@@ -105,7 +105,7 @@ pub(crate) fn push_at(s: &[u8], at: usize, form: Form, mode: Mode) -> Stepped
     }
     if n - body < len {
         return Stepped {
-            found: Found::Refused(Refusal::EarlyEnd(at)),
+            found: Found::Refused(Refusal::BodyCut(at, len - (n - body))),
             next: Cursor { at: n },
         };
     }

@@ -163,6 +163,30 @@ fn cut() {
     both(b"\x4e\xff\xff\xff\xff");
 }
 
+// Direct pushes, length bytes and a body that are cut with some of them there.
+fn more_cut() {
+    both(b"\x4b");
+    both(b"\x51\x4b\xaa");
+    both(b"\x4d\x01");
+    both(b"\x4e\x05\x00\x00\x00\xaa");
+}
+
+// One push in the longest form, cut behind its opcode and in its length bytes.
+fn cut_length() {
+    both(b"\x4e");
+    both(b"\x4e\x03");
+    both(b"\x4e\x03\x00");
+    both(b"\x4e\x03\x00\x00");
+}
+
+// The same push, cut before its body and in it, and whole.
+fn cut_body() {
+    both(b"\x4e\x03\x00\x00\x00");
+    both(b"\x4e\x03\x00\x00\x00\xaa");
+    both(b"\x4e\x03\x00\x00\x00\xaa\xbb");
+    both(b"\x4e\x03\x00\x00\x00\xaa\xbb\xcc");
+}
+
 fn whole() {
     both(b"");
     both(b"\x4c\x00");
@@ -203,13 +227,29 @@ fn whole_tables() {
     tables(b"\x51\x52\x02\xae");
 }
 
+// Length bytes cut, and bodies that are cut before their first byte.
+fn cut_tables() {
+    tables(b"\x51\x52\x4d\x01");
+    tables(b"\x51\x4c\x05");
+    tables(b"\x4b");
+    tables(b"\x4e\xff\xff\xff\xff");
+}
+
+fn cuts() {
+    cut();
+    more_cut();
+    cut_length();
+    cut_body();
+}
+
 fn main() {
     whole();
     one_byte();
-    cut();
+    cuts();
     long_forms();
     wasteful_forms();
     whole_tables();
+    cut_tables();
     long_opcodes();
     long_pushes();
 }

@@ -133,6 +133,7 @@ fn ask_everything(comparison: &mut Comparison, long: bool) {
         around_limit(long).for_each(|script| c.script(&script));
         c.run.ours.thorough = true;
     });
+    comparison.list("pushes cut at each byte", |c| lists::cut_pushes().iter().for_each(|script| c.script(script)));
     comparison.list("random scripts and damaged copies", |c| {
         let mut random = Random(7);
         for i in 0..times(30_000, 600_000) {

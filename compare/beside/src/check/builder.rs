@@ -125,11 +125,7 @@ impl Run {
                 None => state.put(v),
                 Some(refusal) => {
                     let [length, remembered] = [state.values()[0], state.values()[1]];
-                    match refusal.value() {
-                        Some(needed) => Said::new(refusal.number(), &[length, remembered, needed as u64]),
-                        None => Said::new(refusal.number(), &[length, remembered]),
-                    }
-                    .put(v)
+                    Said::refusal(refusal).after(remembered).after(length).put(v)
                 }
             }
         });

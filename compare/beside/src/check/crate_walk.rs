@@ -39,10 +39,7 @@ impl Place {
 }
 
 pub(super) fn walk_refused(refusal: Refusal) -> Said {
-    match refusal {
-        Refusal::NonMinimal(place) | Refusal::EarlyEnd(place) => Said::new(refusal.number(), &[place as u64]),
-        other => Said::no(other.number()),
-    }
+    Said::new(refusal.number(), &refusal.values())
 }
 
 /// A walk of the crate: its instructions from some place on.
@@ -71,7 +68,7 @@ impl<'a> CrateWalk<'a> {
         let place = self.at();
         match self.instructions.next() {
             None => Place::End,
-            Some(Err(error)) => Place::Refused(crate_side::walk_refusal(error, place)),
+            Some(Err(error)) => Place::Refused(crate_side::walk_refusal(error, self.bytes, place)),
             Some(Ok((_, Instruction::Op(opcode)))) => Place::Opcode { place, code: opcode.to_u8() },
             Some(Ok((_, Instruction::PushBytes(body)))) => {
                 let form = match self.bytes[place] {

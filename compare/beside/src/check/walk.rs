@@ -32,7 +32,9 @@ impl Run {
         } else {
             let start = |step: &Place| match step {
                 Place::Opcode { place, .. } | Place::Push { place, .. } => *place,
-                Place::Refused(Refusal::NonMinimal(place) | Refusal::EarlyEnd(place)) => *place,
+                Place::Refused(
+                    Refusal::NonMinimal(place) | Refusal::LengthCut(place, _) | Refusal::BodyCut(place, _),
+                ) => *place,
                 _ => length,
             };
             let first = plain.iter().take(16).map(start);
@@ -205,7 +207,7 @@ impl Run {
                 None if room < table.len() => (Said::new(7, &[count]), &[][..]),
                 None => (Said::yes(&[count]), &table[..]),
             };
-            self.ours.ask_table((Entry::Positions, Via::Raw, 1), room, said, written, |table, v| unsafe {
+            self.ours.ask_table((Entry::Positions, Via::Raw, 2), room, said, written, |table, v| unsafe {
                 ffi::bb_positions(
                     bytes.as_ptr(),
                     bytes.len(),
@@ -216,7 +218,7 @@ impl Run {
                     v.len(),
                 )
             });
-            self.ours.ask_table((Entry::Positions, Via::Safe, 1), room, said, written, |table, v| {
+            self.ours.ask_table((Entry::Positions, Via::Safe, 2), room, said, written, |table, v| {
                 Said::count(script.positions(our_mode(mode), table)).put(v)
             });
         }

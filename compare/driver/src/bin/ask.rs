@@ -175,7 +175,8 @@ fn show_outcome<T: Debug>(name: &str, outcome: &Outcome<T>) {
 fn refused(refusal: Refusal) -> String {
     match refusal {
         Refusal::NonMinimal(place) => format!("{place}: refused, NonMinimal"),
-        Refusal::EarlyEnd(place) => format!("{place}: refused, EarlyEnd"),
+        Refusal::LengthCut(place, missing) => format!("{place}: refused, LengthCut, {missing} missing"),
+        Refusal::BodyCut(place, missing) => format!("{place}: refused, BodyCut, {missing} missing"),
         other => format!("refused, {other:?}"),
     }
 }

@@ -1,12 +1,9 @@
 -- `hand::dust` meets its contract, case by case. Assumes nothing.
-use mathlib.Core.Path.{ap}
-use mathlib.Core.List.{[], _∷_}
-use native.Mathlib.Omega.{arith}
+use mathlib.Core.Path.{refl, ap}
 use borrow.Author.Needs.{needs}
 use Rattle.dust.specs.Answer.{saidDust}
 use Rattle.hand.specs.Handed.{one}
-use Rattle.laws.proofs.Stored.{stored-front}
-use Rattle.hand.proofs.Handing.{says-short, says-row, says-refused}
+use Rattle.hand.proofs.Handing.{one-fits, says-short, says-row, says-refused}
 use Rattle.hand.proofs.dust.Statement.{statement}
 use Rattle.hand.proofs.dust.Tie as tie
 
@@ -17,13 +14,14 @@ returns c =
 returns-2 : tie.Need-returns-2
 returns-2 c =
     let k = c .before .before .before in
-    says-row one _ _ (k .if1 .left) (ap saidDust (c .before .answer .given .1)) (stored-front (_ ∷ []) (k .before .before .args .values .now) (k .if1 .left))
+    says-row one _ (k .before .before .args .values .now) one-fits (k .if1 .left) (ap saidDust (c .before .answer .given .1)) refl
 
 returns-3 : tie.Need-returns-3
 returns-3 c =
     let d = c .before .before in
     let e = d .before .before in
-    says-refused one _ _ (e .before .answer2 .given .0 .0) (e .before .before .before .if1 .left) (omega (arith, e .before .before .before .if1 .left)) (ap saidDust (e .before .answer2 .given .1)) (d .refusal .ensures)
+    says-refused one _ _ (e .before .answer2 .given .0 .0) (e .before .before .before .if1 .left) (ap saidDust (e .before .answer2 .given .1))
+    (d .refused .ensures)
 
 pub dust-spec : {M : Type 1} → statement M
 dust-spec =

@@ -1,11 +1,9 @@
 -- `hand::number` meets its contract. Assumes nothing.
-use mathlib.Core.Path.{ap}
-use mathlib.Core.List.{[], _∷_}
+use mathlib.Core.Path.{refl, ap}
 use borrow.Author.Needs.{needs}
 use mir.Syntax.{w64}
 use mir.Facts.{toZ-ofZ}
 use Rattle.numbers.specs.Answer.{saidNumber}
-use Rattle.laws.proofs.Stored.{stored-front}
 use Rattle.hand.proofs.Handing.{reads-short, reads-value, reads-refused}
 use Rattle.hand.proofs.number.Statement.{statement}
 use Rattle.hand.proofs.number.Tie as tie
@@ -17,8 +15,8 @@ returns c =
 returns-2 : tie.Need-returns-2
 returns-2 c =
     let k = c .before .before .before in
-    let s = k .before in
-    reads-value _ _ (k .if1 .left) (ap saidNumber (c .before .answer .given .1)) (rw (toZ-ofZ {w = w64} (record { sfits = c .known-told .given .0 .1 })) (stored-front (_ ∷ []) (s .args .values .now) (k .if1 .left)))
+    reads-value _ (k .before .args .values .now) (k .if1 .left) (ap saidNumber (c .before .answer .given .1))
+    (rw (toZ-ofZ {w = w64} (record { sfits = c .known-told .given .0 .1 })) refl)
 
 returns-3 : tie.Need-returns-3
 returns-3 c =

@@ -1,13 +1,11 @@
 -- `hand::place` meets its contract, case by case. Assumes nothing.
-use mathlib.Core.Path.{ap}
-use mathlib.Core.List.{[], _∷_}
+use mathlib.Core.Path.{refl, ap}
 use native.Mathlib.Omega.{arith}
 use borrow.Author.Needs.{needs}
 use lib.ListN.{length-set}
 use Rattle.walked.specs.Answer.{saidPlace}
 use Rattle.hand.specs.Handed.{maybe, twoOf}
-use Rattle.laws.proofs.Stored.{stored-front}
-use Rattle.hand.proofs.Handing.{says-short, says-row, says-refused}
+use Rattle.hand.proofs.Handing.{two-fits, maybe-fits, says-short, says-row, says-refused}
 use Rattle.hand.proofs.place.Statement.{statement}
 use Rattle.hand.proofs.place.Tie as tie
 
@@ -21,18 +19,20 @@ slice-write-values-2 c = omega (arith, length-set (c .before .before .before .be
 returns-2 : tie.Need-returns-2
 returns-2 c =
     let k = c .before .before .before in
-    says-row (maybe twoOf) _ _ (k .if1 .left) (ap saidPlace (c .before .answer .given .1)) (stored-front (_ ∷ (_ ∷ (_ ∷ []))) (k .before .before .args .values .now) (k .if1 .left))
+    says-row (maybe twoOf) _ (k .before .before .args .values .now) (maybe-fits twoOf 2 two-fits) (k .if1 .left) (ap saidPlace (c .before .answer .given .1))
+    refl
 
 returns-3 : tie.Need-returns-3
 returns-3 c =
     let k = c .before .before in
-    says-row (maybe twoOf) _ _ (k .if1 .left) (ap saidPlace (c .enum-told .given .1)) (stored-front (_ ∷ []) (k .before .before .args .values .now) (omega (arith, k .if1 .left)))
+    says-row (maybe twoOf) _ (k .before .before .args .values .now) (maybe-fits twoOf 2 two-fits) (k .if1 .left) (ap saidPlace (c .enum-told .given .1)) refl
 
 returns-4 : tie.Need-returns-4
 returns-4 c =
     let d = c .before .before in
     let e = d .before .before in
-    says-refused (maybe twoOf) _ _ (e .before .answer2 .given .0 .0) (e .before .before .before .if1 .left) (omega (arith, e .before .before .before .if1 .left)) (ap saidPlace (e .before .answer2 .given .1)) (d .refusal .ensures)
+    says-refused (maybe twoOf) _ _ (e .before .answer2 .given .0 .0) (e .before .before .before .if1 .left) (ap saidPlace (e .before .answer2 .given .1))
+    (d .refused .ensures)
 
 pub place-spec : {M : Type 1} → statement M
 place-spec =

@@ -1,7 +1,8 @@
 -- `hand::two` meets its contract. Assumes nothing.
+use mathlib.Core.Path.{refl}
 use mathlib.Core.List.{[], _∷_}
+use native.Mathlib.Omega.{arith}
 use borrow.Author.Needs.{needs}
-use Rattle.laws.proofs.Stored.{stored-front}
 use Rattle.hand.proofs.Handing.{gives-short, gives-row}
 use Rattle.hand.proofs.two.Statement.{statement}
 use Rattle.hand.proofs.two.Tie as tie
@@ -12,7 +13,7 @@ returns c =
 
 returns-2 : tie.Need-returns-2
 returns-2 c =
-    gives-row _ _ (c .if1 .left) (stored-front (_ ∷ (_ ∷ [])) (c .before .args .values .now) (c .if1 .left))
+    gives-row (_ ∷ (_ ∷ [])) (c .before .args .values .now) (omega arith) (c .if1 .left) refl
 
 pub two-spec : {M : Type 1} → statement M
 two-spec =

@@ -1,12 +1,9 @@
 -- `hand::version` meets its contract, case by case. Assumes nothing.
-use mathlib.Core.Path.{ap}
-use mathlib.Core.List.{[], _∷_}
-use native.Mathlib.Omega.{arith}
+use mathlib.Core.Path.{refl, ap}
 use borrow.Author.Needs.{needs}
 use Rattle.templates.specs.Answer.{saidVersion}
 use Rattle.hand.specs.Handed.{one, maybe}
-use Rattle.laws.proofs.Stored.{stored-front}
-use Rattle.hand.proofs.Handing.{says-short, says-row, says-refused}
+use Rattle.hand.proofs.Handing.{one-fits, maybe-fits, says-short, says-row, says-refused}
 use Rattle.hand.proofs.version.Statement.{statement}
 use Rattle.hand.proofs.version.Tie as tie
 
@@ -17,18 +14,19 @@ returns c =
 returns-2 : tie.Need-returns-2
 returns-2 c =
     let k = c .before .before .before in
-    says-row (maybe one) _ _ (k .if1 .left) (ap saidVersion (c .before .answer .given .1)) (stored-front (_ ∷ (_ ∷ [])) (k .before .before .args .values .now) (k .if1 .left))
+    says-row (maybe one) _ (k .before .before .args .values .now) (maybe-fits one 1 one-fits) (k .if1 .left) (ap saidVersion (c .before .answer .given .1)) refl
 
 returns-3 : tie.Need-returns-3
 returns-3 c =
     let k = c .before .before in
-    says-row (maybe one) _ _ (k .if1 .left) (ap saidVersion (c .enum-told .given .1)) (stored-front (_ ∷ []) (k .before .before .args .values .now) (omega (arith, k .if1 .left)))
+    says-row (maybe one) _ (k .before .before .args .values .now) (maybe-fits one 1 one-fits) (k .if1 .left) (ap saidVersion (c .enum-told .given .1)) refl
 
 returns-4 : tie.Need-returns-4
 returns-4 c =
     let d = c .before .before in
     let e = d .before .before in
-    says-refused (maybe one) _ _ (e .before .answer2 .given .0 .0) (e .before .before .before .if1 .left) (omega (arith, e .before .before .before .if1 .left)) (ap saidVersion (e .before .answer2 .given .1)) (d .refusal .ensures)
+    says-refused (maybe one) _ _ (e .before .answer2 .given .0 .0) (e .before .before .before .if1 .left) (ap saidVersion (e .before .answer2 .given .1))
+    (d .refused .ensures)
 
 pub version-spec : {M : Type 1} → statement M
 version-spec =

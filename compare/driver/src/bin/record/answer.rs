@@ -17,10 +17,7 @@ impl Answer {
 
     pub fn refused(refusal: Refusal) -> Answer {
         let answer = Answer::default().number(refusal.number().into());
-        match refusal {
-            Refusal::NonMinimal(place) | Refusal::EarlyEnd(place) => answer.number(place as u64),
-            _ => answer,
-        }
+        refusal.values().into_iter().fold(answer, Answer::number)
     }
 
     /// A refusal that the crate does not have.

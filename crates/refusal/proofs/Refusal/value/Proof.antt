@@ -8,16 +8,19 @@ use Rattle.refusal.proofs.Refusal.value.Tie as tie
 returns-2 : tie.Need-returns-2
 returns-2 c = sym (ap valuesOf (c .before .self .given .1))
 
-returns-3 : tie.Need-returns-3
-returns-3 c = sym (ap valuesOf (c .before .self2 .given .1))
+returns-6 : tie.Need-returns-6
+returns-6 c = sym (ap valuesOf (c .before .self2 .given .1))
 
-returns-7 : tie.Need-returns-7
-returns-7 c = sym (ap valuesOf (c .before .self3 .given .1))
+returns-13 : tie.Need-returns-13
+returns-13 c = sym (ap valuesOf (c .before .self3 .given .1))
+
+returns-14 : tie.Need-returns-14
+returns-14 c = sym (ap valuesOf (c .before .self4 .given .1))
 
 pub value-spec : {M : Type 1} → statement M
 value-spec =
     tie.close
     (tie.spec (λ c. search needs) (λ c. search needs) (λ c. search needs) (λ c. search needs) (λ c. search needs) (λ c. search needs) (λ c. search needs)
     (λ c. search needs) (λ c. search needs) (λ c. search needs) (λ c. search needs) (λ c. search needs) (λ c. search needs) (λ c. search needs)
-    returns-2 returns-3 (λ c. search needs) (λ c. search needs) (λ c. search needs) returns-7 (λ c. search needs) (λ c. search needs)
-    (λ c. search needs) (λ c. search needs) (λ c. search needs) (λ c. search needs))
+    (λ c. search needs) returns-2 (λ c. search needs) (λ c. search needs) (λ c. search needs) returns-6 (λ c. search needs) (λ c. search needs)
+    (λ c. search needs) (λ c. search needs) (λ c. search needs) (λ c. search needs) returns-13 returns-14)

@@ -62,5 +62,5 @@ returns-4 c =
 pub push-at-spec : {M : Type 1} → statement M
 push-at-spec =
     tie.close
-    (tie.spec (λ c κs. search needs) (λ c. search needs) add-body-2 returns stated-len-requires (λ c κs. search needs) returns-2 returns-3
-    (λ c. search needs) returns-4)
+    (tie.spec (λ c κs. search needs) (λ c. search needs) add-body-2 (λ c. search needs) returns stated-len-requires (λ c κs. search needs) returns-2
+    (λ c. search needs) returns-3 (λ c. search needs) returns-4)
