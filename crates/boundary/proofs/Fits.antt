@@ -14,8 +14,8 @@ use Rattle.laws.proofs.Test.{by-test}
 use Rattle.refusal.specs.Refusal.{limit, withinLimit}
 use Rattle.numbers.specs.ScriptNum.{serialize}
 use Rattle.numbers.specs.Answer.{isLeast, lenSays, writeSays, boolSays}
-use Rattle.script.specs.Script.{ScriptOp, fails, reads, getScriptOp, Lack, ofLength, ofBody, lacks}
-use Rattle.script.specs.Walk.{Walked, end, found, notMinimal, cutNotMinimal, cut, judged, walkSays, nextAt}
+use Rattle.script.specs.Script.{ScriptOp, fails, reads, getScriptOp, lacks}
+use Rattle.script.specs.Walk.{Walked, end, found, notMinimal, cutNotMinimal, judged, walkSays, nextAt}
 use Rattle.script.specs.Run.{Run, continue, walkFor, walkFrom, ending}
 use Rattle.places.specs.Places.{placesOf, positionsSay}
 use Rattle.fixed.specs.Fixed.{isPayToWitnessPubkeyHash, scriptCode}
@@ -27,6 +27,7 @@ use Rattle.witness.specs.Program.{wrongV0, witnessBytes, witnessSays}
 use Rattle.screen.specs.Screen.{screenOf, inspectSays}
 use Rattle.building.specs.Builder.{State, Call, pushOpcode, pushSlice, intOpcode, pushNumber, pushInt, verifyForm, pushVerified, pushVerify, takesOver}
 use Rattle.building.specs.Lent.{notLast, builderSays, builtSays, within, leaves, calls}
+use Rattle.script.proofs.Step.{by-lack}
 use Rattle.hand.specs.Handed.{Fits, Brief, one, yes, maybe, walkedRow}
 use Rattle.hand.proofs.Handing.{one-fits, walked-fits}
 
@@ -179,12 +180,8 @@ walk-brief minimal s at =
     (by-test (Brief 2) (ltb (length s) at) (λ e. omega arith)
     (λ e. by-test (Brief 2) (eqb (length s) at) (λ e. omega arith) (λ e. go (getScriptOp s at))))
   where
-    cut-brief : (k : Lack) → Brief 2 (cut at k)
-    cut-brief (ofLength missing) = omega arith
-    cut-brief (ofBody missing) = omega arith
-
     go : (o : ScriptOp) → Brief 2 (judged minimal s at o)
-    go fails = by-test (Brief 2) (minimal && cutNotMinimal s at) (λ e. omega arith) (λ e. cut-brief (lacks s at))
+    go fails = by-test (Brief 2) (minimal && cutNotMinimal s at) (λ e. omega arith) (λ e. by-lack (Brief 2) at (lacks s at) (λ m. omega arith) (λ m. omega arith))
     go (reads code vch pc) = by-test (Brief 2) (minimal && notMinimal code vch) (λ e. omega arith) (λ e. omega arith)
 
 -- bb_next and bb_advance: one more for the place for the next call makes 6

@@ -14,15 +14,15 @@ use Rattle.laws.proofs.Test.{by-test, lt-or-le}
 use Rattle.laws.proofs.Part.{part-bytes}
 use Rattle.refusal.specs.Refusal.{limit}
 use Rattle.opcodes.specs.Opcode.{PushForm, direct, pushdata1, pushdata2, pushdata4, lengthBytes, sortOf}
-use Rattle.script.specs.Script.{ScriptOp, fails, reads, getScriptOp, Lack, ofLength, ofBody, lacks}
+use Rattle.script.specs.Script.{ScriptOp, fails, reads, getScriptOp, lacks}
 use Rattle.script.specs.Steps.{stated}
-use Rattle.script.specs.Walk.{Walked, end, found, walked, notMinimal, cutNotMinimal, cut, judged, walkSays, moved, nextAt}
+use Rattle.script.specs.Walk.{Walked, end, found, walked, notMinimal, cutNotMinimal, judged, walkSays, moved, nextAt}
 use Rattle.script.specs.Walk as walk
 use Rattle.script.specs.Instruction.{Instruction, opcode, push, Bytes, Stands, opcodeOf, writeLE, size, wasteful, codeOf, dataOf, StandsAt}
 use Rattle.script.specs.Calls.{given}
 use Rattle.script.specs.Demand.{NamesPlace}
 use Rattle.script.proofs.Minimal.{IsOf, minimal-same}
-use Rattle.script.proofs.Step.{bad-cursor, at-end, inside, push-code, stated-most}
+use Rattle.script.proofs.Step.{bad-cursor, at-end, inside, by-lack, push-code, stated-most}
 use Rattle.script.proofs.Good.{OpcodeAt, PushAt, good-answer}
 use Rattle.script.proofs.Encoding.{size-is, encode-length, write-read, Laid, laid-bytes, bytes-laid}
 use Rattle.script.proofs.Reading.{form-code, laid-reads, same-instruction}
@@ -91,12 +91,8 @@ module _ (minimal : Bool) (s : List ℕ) (l : length s ≤ limit) (at : ℕ) whe
   refusal-place : at < length s → (number : ℕ) (values : List ℕ) → walkSays minimal s at ≡ refuses number values → Place at (refuses number values)
   refusal-place h number values e = subst (Place at) (sym (inside minimal s at l h) ∙ e) (placed (getScriptOp s at))
     where
-      cut-placed : (k : Lack) → Place at (cut at k)
-      cut-placed (ofLength missing) = inr (inl refl, (missing, refl))
-      cut-placed (ofBody missing) = inr (inr refl, (missing, refl))
-
       placed : (o : ScriptOp) → Place at (judged minimal s at o)
-      placed fails = by-test (Place at) (minimal && cutNotMinimal s at) (λ t. inl (refl, refl)) (λ t. cut-placed (lacks s at))
+      placed fails = by-test (Place at) (minimal && cutNotMinimal s at) (λ t. inl (refl, refl)) (λ t. by-lack (Place at) at (lacks s at) (λ m. inr (inl refl, (m, refl))) (λ m. inr (inr refl, (m, refl))))
       placed (reads code vch pc) = by-test (Place at) (minimal && notMinimal code vch) (λ t. inl (refl, refl)) (λ t. tt)
 
   -- what Core reads and the mode takes is no refusal

@@ -14,10 +14,10 @@ use Rattle.laws.proofs.Test.{by-test}
 use Rattle.refusal.specs.Refusal.{limit}
 use Rattle.opcodes.specs.Opcode.{PushForm, lengthBytes, Sort, sortOf}
 use Rattle.opcodes.specs.Opcode as sort
-use Rattle.script.specs.Script.{ScriptOp, fails, reads, assign, Lack, ofLength, ofBody, lacks}
-use Rattle.script.specs.Walk.{Walked, end, found, opcode, push, notMinimal, cutNotMinimal, cut, judged, walkSays}
+use Rattle.script.specs.Script.{ScriptOp, fails, reads, assign, lacks}
+use Rattle.script.specs.Walk.{Walked, end, found, opcode, push, notMinimal, cutNotMinimal, judged, walkSays}
 use Rattle.script.specs.Steps.{stated}
-use Rattle.script.proofs.Step.{inside, push-code, number-code, plain-code, push-read, opcode-says}
+use Rattle.script.proofs.Step.{inside, by-lack, push-code, number-code, plain-code, push-read, opcode-says}
 
 -- an opcode stands at p
 pub record OpcodeAt (s : List ℕ) (p place code : ℕ) : Type 0 where
@@ -47,12 +47,8 @@ module _ (minimal : Bool) (s : List ℕ) (p : ℕ) (l : length s ≤ limit) (h :
   abbrev Fine : Said Walked → Type 0
   Fine = Good minimal s p
 
-  cut-fine : (k : Lack) → Fine (cut p k)
-  cut-fine (ofLength missing) = tt
-  cut-fine (ofBody missing) = tt
-
   refused : Fine (judged minimal s p fails)
-  refused = by-test Fine (minimal && cutNotMinimal s p) (λ e. tt) (λ e. cut-fine (lacks s p))
+  refused = by-test Fine (minimal && cutNotMinimal s p) (λ e. tt) (λ e. by-lack Fine p (lacks s p) (λ m. tt) (λ m. tt))
 
   whole : (form : PushForm) → sortOf (getD s p 0) ≡ sort.push form → p + 1 + lengthBytes form ≤ length s
       → stated (lengthBytes form) s p ≤ length s - (p + 1 + lengthBytes form)

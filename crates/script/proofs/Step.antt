@@ -34,6 +34,7 @@ use Rattle.script.specs.Script.{
   lacks,
 }
 use Rattle.script.specs.Walk.{
+  Item,
   Walked,
   end,
   found,
@@ -44,6 +45,7 @@ use Rattle.script.specs.Walk.{
   saysLess,
   cutForm,
   cutNotMinimal,
+  cut,
   judged,
   walkSays,
   moved,
@@ -73,6 +75,12 @@ module _ (minimal : Bool) (s : List ℕ) (at : ℕ) where
   pub inside : length s ≤ limit → at < length s → walkSays minimal s at ≡ judged minimal s at (getScriptOp s at)
   unfolding walkSays
   inside l h = simp (le-ltb _ _ l, le-ltb (length s) at (omega arith), ne-eqb (length s) at (omega arith))
+
+-- both ways of a read that lacks something
+pub by-lack : (P : Said Walked → Type 0) (place : ℕ) (k : Lack) → ((missing : ℕ) → P (refuses 14 (place ∷ missing ∷ [])))
+    → ((missing : ℕ) → P (refuses 15 (place ∷ missing ∷ []))) → P (cut place k)
+by-lack P place (ofLength missing) f g = f missing
+by-lack P place (ofBody missing) f g = g missing
 
 -- ---- what the sort of an opcode says of its number
 
@@ -267,7 +275,10 @@ module _ (s : List ℕ) (at : ℕ) (form : PushForm) (k : sortOf (getD s at 0) �
       unfolding assign
       whole-push w =
           let n : length (take says (drop start s)) ≡ says = length-take-le says (drop start s) (simp length-drop w) in
-          inside minimal s at l h ∙ rw (read, le-ltb (length s - start) says w, k, n)
+          let is : walked (sortOf (getD s at 0)) at (getD s at 0) (length (take says (drop start s))) ≡ push at form start says = rw (k, n) in
+          inside minimal s at l h
+          ∙ rw (read, le-ltb (length s - start) says w)
+          (ap (λ (i : Item). if minimal && notMinimal (getD s at 0) (take says (drop start s)) then refuses 2 (at ∷ []) else answers (found i)) is)
 
       -- the verdict on a push whose length bytes are there
       pub verdict : Bytes s → walkSays minimal s at

@@ -13,11 +13,11 @@ use Rattle.laws.proofs.Test.{lt-or-le}
 use Rattle.refusal.specs.Refusal.{limit}
 use Rattle.opcodes.specs.Core.{OP-16}
 use Rattle.opcodes.specs.Opcode.{sortOf}
-use Rattle.script.specs.Script.{ScriptOp, fails, reads, getScriptOp, Lack, ofLength, ofBody, lacks}
-use Rattle.script.specs.Walk.{found, walked, cut, judged, walkSays, nextAt}
+use Rattle.script.specs.Script.{ScriptOp, fails, reads, getScriptOp, lacks}
+use Rattle.script.specs.Walk.{found, walked, judged, walkSays, nextAt}
 use Rattle.script.specs.Instruction.{Bytes}
-use Rattle.script.specs.Run.{Run, item, continue, walkFrom}
-use Rattle.script.proofs.Step.{at-end, inside, by-sort}
+use Rattle.script.specs.Run.{item, continue, walkFrom}
+use Rattle.script.proofs.Step.{at-end, inside, by-lack, by-sort}
 use Rattle.script.proofs.Run.{moves, turn}
 use Rattle.script.proofs.Core.{core-plain}
 use Rattle.walked.specs.Walked.{atMostOp16, pushOnlyRun, isPushOnly}
@@ -29,11 +29,6 @@ most-op16 code place len =
     by-sort code (λ k. atMostOp16 (walked k place code len) ≡ leb code OP-16) (λ h. sym (le-leb code 96 (omega arith))) (λ h. sym (le-leb code 96 (omega arith)))
     (λ h. sym (le-leb code 96 (omega arith))) (λ h. sym (le-leb code 96 (omega arith))) (λ h. refl) (λ h. refl)
 
--- a push that is cut ends the walk with a refusal, whichever part is short
-cut-ends : (place : ℕ) (lack : Lack) (rest : Run) → pushOnlyRun (continue (cut place lack) rest) ≡ false
-cut-ends place (ofLength missing) rest = refl
-cut-ends place (ofBody missing) rest = refl
-
 module _ (s : List ℕ) (l : length s ≤ limit) (bytes : Bytes s) where
   at-last : (pc : ℕ) → length s ≡ pc → true ≡ pushOnlyRun (walkFrom false s pc)
   at-last pc e = rw (turn false s pc (sym (at-end false s pc l e)) refl)
@@ -41,7 +36,8 @@ module _ (s : List ℕ) (l : length s ≤ limit) (bytes : Bytes s) where
   one-turn : (t pc : ℕ) → pc < length s → ((q : ℕ) → pc < q → q ≤ length s → whilePush t s q ≡ pushOnlyRun (walkFrom false s q))
       → (o : ScriptOp) → getScriptOp s pc ≡ o → pushTurn o (whilePush t s) ≡ pushOnlyRun (walkFrom false s pc)
   one-turn t pc h again fails e =
-      rw (turn false s pc (sym (inside false s pc l h ∙ ap (judged false s pc) e)) refl) (sym (cut-ends pc (lacks s pc) (walkFrom false s (nextAt false s pc))))
+      rw (turn false s pc (sym (inside false s pc l h ∙ ap (judged false s pc) e)) refl)
+      (by-lack (λ a. false ≡ pushOnlyRun (continue a (walkFrom false s (nextAt false s pc)))) pc (lacks s pc) (λ m. refl) (λ m. refl))
   one-turn t pc h again (reads code vch q) e =
       let i = walked (sortOf code) pc code (length vch) in
       let w : walkSays false s pc ≡ answers (found i) = inside false s pc l h ∙ ap (judged false s pc) e in
