@@ -1,4 +1,5 @@
 // Scripts built piece by piece into a lent buffer: opcodes, data, integers, lock times, and verify folded into the last opcode.
+#![tactic(auto)]
 ghost use Rattle.std.specs.Prelude.{◌≡◌, pos, length};
 ghost use Rattle.std.proofs.Math.Option.{none};
 ghost use Rattle.refusal.specs.Refusal.{said_refusal};
@@ -23,14 +24,14 @@ const MAX_PUSHDATA1: usize = 0xff;
 const MAX_PUSHDATA2: usize = 0xffff;
 
 // A script that is being built at the front of a buffer: how many of its bytes are used, and the opcode that the last call appended.
-#[derive(Drop)]
+#[derive(Clone, Copy)]
 pub struct Builder {
     pub length: usize,
     pub remembered: Code,
 }
 
 // What a call answers, and the builder for the next one. After a refusal that is the builder that the call got, and the buffer is as it was.
-#[derive(Drop)]
+#[derive(Clone, Copy)]
 pub struct Built {
     pub answer: Answer,
     pub builder: Builder,

@@ -1,5 +1,6 @@
 // Prints what the builder's calls leave at the edges of their inputs, one line for each call: the answer, the builder for the next call, and the
 // first bytes of the buffer. A buffer is filled with 0xee before the first call, so that a byte that was not written shows.
+#![tactic(auto)]
 use builder::{Answer, Builder, Built};
 use opcodes::Code;
 

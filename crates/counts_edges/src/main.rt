@@ -1,5 +1,6 @@
 // Prints signature counts, dust amounts and witness scripts at the edges of their inputs, one line for each call. A lent buffer is filled with 0xee
 // before the call and printed whole after it, so that a byte that was not written shows.
+#![tactic(auto)]
 use dust::Dust;
 
 // A script by its bytes, or by their count where there are many.

@@ -1,4 +1,5 @@
 // The least amount that an output with a script may hold and be no dust.
+#![tactic(auto)]
 ghost use Rattle.std.specs.Prelude.{◌≡◌, ◌≤◌, length};
 ghost use Rattle.refusal.specs.Refusal.{limit};
 ghost use Rattle.dust.specs.Answer.{said_dust};
@@ -16,7 +17,7 @@ const WITNESS_SPEND_SIZE: usize = 32 + 4 + 1 + 107 / 4 + 4 + 8;
 const DUST_RATE: u64 = 3000;
 
 // The least amount that is no dust.
-#[derive(Drop)]
+#[derive(Clone, Copy)]
 pub enum Dust {
     Satoshi(u64),
     Refused(Refusal),

@@ -1,5 +1,6 @@
 // Prints what `inspect` answers at the edges of its inputs. A lent buffer is filled with dots before the call and printed after it, so that a byte
 // that was not written shows.
+#![tactic(auto)]
 use refusal::Counted;
 
 // How much of a long screen is printed.

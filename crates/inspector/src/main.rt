@@ -1,4 +1,5 @@
 // The inspector: reads one raw script from standard input and writes its screen to standard output.
+#![tactic(auto)]
 use libc::STDIN_FILENO;
 use shown::show_from;
 

@@ -1,5 +1,6 @@
 // The screens of files of chosen lengths, read and shown as the inspector does it: no byte, one, as many as are inspected, one more, many more, and one in
 // which every byte stands.
+#![tactic(auto)]
 use libc::STDOUT_FILENO;
 use shown::show_from;
 

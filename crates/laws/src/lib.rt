@@ -1,1 +1,2 @@
 // No code: definitions that several crates share stand in specs/, laws about them in proofs/.
+#![tactic(auto)]

@@ -1,4 +1,5 @@
 // What a builder's calls share: whether they take the builder, the opcode that they choose, and a push laid out behind the used bytes.
+#![tactic(auto)]
 mod choose;
 mod given;
 mod store;
@@ -9,7 +10,7 @@ use refusal::Refusal;
 pub use store::lay;
 
 // Whether a call did what it was asked.
-#[derive(Drop)]
+#[derive(Clone, Copy)]
 pub enum Answer {
     Done,
     Refused(Refusal),

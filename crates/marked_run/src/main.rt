@@ -1,4 +1,5 @@
 // Prints what the entries answer for document 01's marked examples W1 to W12, one line for each answer, and the inspector's example as it is.
+#![tactic(auto)]
 use builder::{Answer, Builder, Built};
 use dust::Dust;
 use numbers::Number;

@@ -41,6 +41,7 @@ last true b p h = ⊎_elim (λ l. rw (lt-leb 128 b l) (only p l refl)) (λ g. rw
 last false b p h = ⊎_elim (λ l. rw (lt-leb 128 b l) (only {b = b} p l (omega arith))) (λ g. rw (le-leb 128 b g) (apart g h refl refl)) (lt_or_le b 128)
 
 more : (neg : Bool) {m b q : ℕ} (v : List ℕ) → b < 256 → 0 < q → m ≡ b + 256 * q → Coded (bit neg) q (close_sign neg v) → Coded (bit neg) m (close_sign neg (b ∷ v))
+more neg {m = m} {b = b} {q = q} [] h p e f = elim f [ ]
 more neg (c ∷ w) h p e f = below h p e f
 
 nothing : (turns : ℕ) → low_bytes turns 0 ≡ []

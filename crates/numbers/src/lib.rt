@@ -1,4 +1,6 @@
 // Script numbers: how many bytes one takes, written into a lent buffer, read strictly or not, and read as yes or no.
+#![tactic(auto)]
+
 mod read;
 mod write;
 
@@ -10,7 +12,7 @@ pub use write::{scriptint_len, write_scriptint};
 pub(crate) const SIGN_BIT: u8 = 0x80;
 
 // A number that was read.
-#[derive(Drop)]
+#[derive(Clone, Copy)]
 pub enum Number {
     Value(i64),
     Refused(Refusal),

@@ -1,5 +1,6 @@
 // Prints what the number entries answer at the edges of their inputs, one line for each. A lent buffer is filled with 0xee before the call
 // and printed whole after it, so that a byte that was not written shows.
+#![tactic(auto)]
 use numbers::Number;
 use refusal::Counted;
 

@@ -1,4 +1,5 @@
 // Opcode bytes: what sort of instruction each starts, and what goes with it.
+#![tactic(auto)]
 ghost use Rattle.std.specs.Prelude.{◌≡◌};
 ghost use Rattle.opcodes.specs.Opcode.{sort_of, length_bytes, said_class, said_form, pushnum_of, verify_of, said_code};
 
@@ -43,7 +44,7 @@ pub const OP_CHECKMULTISIGVERIFY: u8 = 0xaf;
 pub const OP_INVALIDOPCODE: u8 = 0xff;
 
 // How a push states the length of its body: in the opcode itself, or in 1, 2 or 4 length bytes after it.
-#[derive(Drop)]
+#[derive(Clone, Copy)]
 pub enum Form {
     Direct,
     PushData1,
@@ -52,7 +53,7 @@ pub enum Form {
 }
 
 // What sort of instruction an opcode byte starts.
-#[derive(Drop)]
+#[derive(Clone, Copy)]
 pub enum Class {
     Push(Form),
     PushNum,
@@ -60,7 +61,7 @@ pub enum Class {
 }
 
 // An opcode byte or a number, or nothing.
-#[derive(Drop)]
+#[derive(Clone, Copy)]
 pub enum Code {
     Is(u8),
     Nothing,

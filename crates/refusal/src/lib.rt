@@ -1,10 +1,11 @@
 // The refusals of document 01 as document 02 amends them, and the two answers that most entries give.
+#![tactic(auto)]
 ghost use Rattle.std.specs.Prelude.{◌≡◌, length};
 ghost use Rattle.refusal.specs.Refusal.{number_of, values_of};
 ghost use Rattle.refusal.specs.Answer.{said_value};
 
 // One variant for each line of document 01's table as document 02 amends it, holding that line's values. Number 3 is retired: 14 and 15 are in its place.
-#[derive(Drop)]
+#[derive(Clone, Copy)]
 pub enum Refusal {
     // 1: an input or a built script is longer than MAX_SCRIPT bytes.
     TooLong,
@@ -37,7 +38,7 @@ pub enum Refusal {
 }
 
 // What stands beside a refusal's number: one value, two, or nothing.
-#[derive(Drop)]
+#[derive(Clone, Copy)]
 pub enum Value {
     Is(usize),
     Both(usize, usize),
@@ -107,14 +108,14 @@ impl Value {
 }
 
 // A count: of bytes or entries that were written, of bytes that would be, of signature operations.
-#[derive(Drop)]
+#[derive(Clone, Copy)]
 pub enum Counted {
     Count(usize),
     Refused(Refusal),
 }
 
 // Yes or no.
-#[derive(Drop)]
+#[derive(Clone, Copy)]
 pub enum Judged {
     Answer(bool),
     Refused(Refusal),

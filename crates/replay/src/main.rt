@@ -1,5 +1,6 @@
 // Reads a recorded sample of the Rust crate's answers from standard input, asks Brinebutton the same, and prints for each entry how many answers
 // agree. Only a file that is whole and agrees with every answer ends in the line `.. records agree`. docs/REPLAY.md has the file's layout.
+#![tactic(auto)]
 mod entries;
 mod expect;
 mod file;

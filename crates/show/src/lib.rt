@@ -1,4 +1,5 @@
 // Answers printed on standard output, for the programs that run the entries at the edges of their inputs.
+#![tactic(auto)]
 use libc::STDOUT_FILENO;
 use refusal::{Counted, Judged, Refusal};
 

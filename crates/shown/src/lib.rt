@@ -1,4 +1,5 @@
 // One raw script from a file descriptor to its screen on standard output.
+#![tactic(auto)]
 ghost use Rattle.std.specs.Prelude.{◌≡◌, ◌++◌, ◌-◌, ◌≤◌, ◌<◌, length, take, drop};
 ghost use Rattle.screen.specs.Screen.{most_shown, screen_of};
 ghost use Rattle.libc.specs.Io.{Moved};

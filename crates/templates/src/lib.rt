@@ -1,4 +1,5 @@
 // Templates: which of the standard forms a script has, and what stands in it.
+#![tactic(auto)]
 ghost use Rattle.std.specs.Prelude.{◌≡◌, false, ◌++◌, ◌+◌, ◌≤◌, length, drop};
 ghost use Rattle.laws.specs.Buffer.{after};
 ghost use Rattle.walk.specs.Part.{Part};
@@ -32,7 +33,7 @@ const HASH_START: usize = 3;
 const HASH_END: usize = 23;
 
 // A witness version, 0 to 16.
-#[derive(Drop)]
+#[derive(Clone, Copy)]
 pub enum Version {
     Is(u8),
     Nothing,
@@ -40,7 +41,7 @@ pub enum Version {
 }
 
 // How many bytes were written.
-#[derive(Drop)]
+#[derive(Clone, Copy)]
 pub enum Coded {
     Bytes(usize),
     Nothing,
@@ -48,7 +49,7 @@ pub enum Coded {
 }
 
 // The kinds of script, in the order in which they are tried.
-#[derive(Drop)]
+#[derive(Clone, Copy)]
 pub enum Template {
     P2pkh,
     P2sh,
@@ -64,7 +65,7 @@ pub enum Template {
 }
 
 // The kind of a script.
-#[derive(Drop)]
+#[derive(Clone, Copy)]
 pub enum Kinded {
     Is(Template),
     Refused(Refusal),

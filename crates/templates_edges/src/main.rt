@@ -1,4 +1,5 @@
 // Prints what the template entries answer at the edges of their inputs, one line for each script.
+#![tactic(auto)]
 use templates::{Coded, Kinded, Place, Template, Version};
 
 fn template_name(template: Template) {

@@ -1,5 +1,6 @@
 // Prints what the text entries answer at the edges of their inputs, one line for each call. A lent buffer is filled with dots before the call
 // and printed whole after it, so that a byte that was not written shows.
+#![tactic(auto)]
 use refusal::Counted;
 
 fn write_into(script: &[u8], out: &mut [u8]) {

@@ -1,4 +1,6 @@
 // The walk over a script: one instruction at a time, each call given the cursor that the one before gave back.
+#![tactic(auto)]
+
 mod lent;
 mod part;
 mod push;
@@ -16,20 +18,20 @@ use push::{push_at, push_size};
 use refusal::{Counted, Refusal};
 
 // Plain takes every whole push; Minimal refuses a push that has a shorter form.
-#[derive(Drop)]
+#[derive(Clone, Copy)]
 pub enum Mode {
     Plain,
     Minimal,
 }
 
 // A place in a script, counted in bytes from its front.
-#[derive(Drop)]
+#[derive(Clone, Copy)]
 pub struct Cursor {
     pub at: usize,
 }
 
 // What stands at a cursor.
-#[derive(Drop)]
+#[derive(Clone, Copy)]
 pub enum Found {
     // No byte remains.
     End,
@@ -49,7 +51,7 @@ pub enum Found {
 }
 
 // What stands at a cursor, and the cursor for the next call.
-#[derive(Drop)]
+#[derive(Clone, Copy)]
 pub struct Stepped {
     pub found: Found,
     pub next: Cursor,

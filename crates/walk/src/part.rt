@@ -8,7 +8,7 @@ ghost use Rattle.walk.specs.Steps.{Spans};
 use crate::{Cursor, Found, Mode};
 
 // Where a part lies.
-#[derive(Drop)]
+#[derive(Clone, Copy)]
 struct Span {
     start: usize,
     end: usize,

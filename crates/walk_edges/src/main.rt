@@ -1,4 +1,5 @@
 // Prints what the walk answers at the edges of its inputs, one line for each call.
+#![tactic(auto)]
 use opcodes::Form;
 use walk::{Cursor, Found, Mode};
 

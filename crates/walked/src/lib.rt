@@ -1,4 +1,5 @@
 // Tests that walk a script, each by one loop over the walk's step, and left at the first instruction that does not fit.
+#![tactic(auto)]
 ghost use Rattle.std.specs.Prelude.{true, false, ◌≡◌, get_or};
 ghost use Rattle.laws.specs.Said.{answers};
 ghost use Rattle.opcodes.specs.Opcode.{pushnum_of};
@@ -11,7 +12,7 @@ use refusal::Refusal;
 use walk::{Cursor, Found, Mode};
 
 // Where bytes of a script lie.
-#[derive(Drop)]
+#[derive(Clone, Copy)]
 pub enum Place {
     At { start: usize, len: usize },
     Nothing,
