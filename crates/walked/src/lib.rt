@@ -1,5 +1,6 @@
 // Tests that walk a script, each by one loop over the walk's step, and left at the first instruction that does not fit.
 #![tactic(auto)]
+
 ghost use Rattle.std.specs.Prelude.{true, false, ◌≡◌, get_or};
 ghost use Rattle.laws.specs.Said.{answers};
 ghost use Rattle.opcodes.specs.Opcode.{pushnum_of};
