@@ -53,7 +53,7 @@ fn write_program(version: u8, program: &[u8], out: &mut [u8])
 {
     out[0] = version_byte(version);
     out[1] = program.len() as u8;
-    bytes::copy(program, &mut out[PROGRAM_START..]);
+    store::copy(program, &mut out[PROGRAM_START..]);
 }
 
 // Writes the script of a witness program to the front of a lent buffer and answers its length. Refused, with the buffer untouched: with 12 for a
