@@ -1,5 +1,6 @@
 // Signature operations of a script, as a node counts them.
 #![tactic(auto)]
+
 ghost use Rattle.std.specs.Prelude.{true, false, ◌≡◌, ◌≤◌};
 ghost use Rattle.refusal.specs.Answer.{said_count};
 ghost use Rattle.counts.specs.Count.{multisig_ops, sig_ops, count_says};

@@ -1,5 +1,6 @@
 // Tests of the bytes that stand at fixed places of a script. Each looks at the length first, and none at more than five bytes.
 #![tactic(auto)]
+
 ghost use Rattle.std.specs.Prelude.{◌≡◌};
 ghost use Rattle.opcodes.specs.Opcode.{said_code};
 ghost use Rattle.fixed.specs.Fixed.{is_pay_to_script_hash, is_pay_to_pubkey_hash, witness_version, is_program_of, is_pay_to_anchor, is_key_of, is_pay_to_pubkey, is_op_return, is_witness_program};

@@ -5,22 +5,16 @@ use borrow.Author.Rules.{rules}
 use borrow.Author.Tests.{eq-eqb, ne_eqb}
 use lib.ListN.{length}
 use Rattle.fixed.specs.Fixed.{is_key_of}
-use Rattle.fixed.proofs.keyed.Statement.{statement}
-use Rattle.fixed.proofs.keyed.Tie as tie
+use Rattle.fixed.proofs.keyed.Goals as goal
 
-returns : tie.Need-returns
+pub returns-then-s-n : goal.returns-then-s-n
 unfolding is_key_of
-returns c =
-    let a = c.before.before.before.args in
+returns-then-s-n c =
+    let a = c.args in
     rw (eq-eqb (length a.s.now) (a.size + 2) (omega arith))
 
-returns-2 : tie.Need-returns-2
+pub returns-else-s-n : goal.returns-else-s-n
 unfolding is_key_of
-returns-2 c =
-    let a = c.before.args in
+returns-else-s-n c =
+    let a = c.args in
     rw (ne_eqb (length a.s.now) (a.size + 2) (omega arith))
-
-pub keyed-spec : {M : Type 1} → statement M
-keyed-spec =
-    tie.close
-    (tie.spec (λ c. search rules) (λ c. search rules) (λ c. search rules) (λ c. search rules) returns returns-2)
