@@ -1,5 +1,6 @@
 // The least amount that an output with a script may hold and be no dust.
 #![tactic(auto)]
+
 ghost use Rattle.std.specs.Prelude.{◌≡◌, ◌≤◌, length};
 ghost use Rattle.refusal.specs.Refusal.{limit};
 ghost use Rattle.dust.specs.Answer.{said_dust};

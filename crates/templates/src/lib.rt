@@ -1,5 +1,6 @@
 // Templates: which of the standard forms a script has, and what stands in it.
 #![tactic(auto)]
+
 ghost use Rattle.std.specs.Prelude.{◌≡◌, false, ◌++◌, ◌+◌, ◌≤◌, length, drop};
 ghost use Rattle.laws.specs.Buffer.{after};
 ghost use Rattle.walk.specs.Part.{Part};

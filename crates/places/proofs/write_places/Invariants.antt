@@ -1,0 +1,31 @@
+-- `places::write_places` meets its contract. The loop's invariant: the table as it is, with the places from here on stored from i on, is the
+-- table at the end, and there is room for them. The measure is what is left of the script. Assumes nothing.
+use mathlib.Core.Path.{◌≡◌, refl, sym, ap, ◌∙◌}
+use mathlib.Core.Bool.{Bool}
+use mathlib.Core.List.{List, ◌∷◌, map}
+use Prim.Native.Nat.{ℕ, suc, ◌+◌, ◌-◌, ◌≤◌, ◌<◌}
+use native.Mathlib.Numerals.{add-one}
+use native.Mathlib.Omega.{arith}
+use borrow.Author.Rules.{rules}
+use lib.ListN.{length, set, get_or, length-set}
+use lib.Seq.{sets}
+use Rattle.opcodes.specs.Opcode.{sort_of}
+use Rattle.walk.specs.Answer.{is_minimal}
+use Rattle.script.specs.Run.{Run, walk_from, items}
+use Rattle.script.specs.Walk.{place_of}
+use Rattle.places.specs.Places.{places_of}
+use Rattle.script.proofs.Sized.{within_limit_lem, stands_fits, turn_sized, stops}
+use Rattle.places.proofs.Places.{place_is}
+use Rattle.places.proofs.write_places.Given as goal
+
+-- the places from p on
+abbrev from : Bool → List ℕ → ℕ → List ℕ
+from minimal s p = map place_of (items (walk_from minimal s p))
+
+abbrev pub invariant-loop-mode : goal.invariant-loop-mode
+invariant-loop-mode l =
+    (l.at ≤ length l.script) × (length l.table ≡ length l.initial.table) × (l.i + length (from (is_minimal l.mode) l.script l.at) ≤ length l.table)
+    × (sets l.table l.i (from (is_minimal l.mode) l.script l.at) ≡ sets l.initial.table 0 (from (is_minimal l.mode) l.script 0))
+
+abbrev pub decreases-loop-mode : goal.decreases-loop-mode
+decreases-loop-mode l = length l.script - l.at
