@@ -1,5 +1,6 @@
 // What a builder's calls share: whether they take the builder, the opcode that they choose, and a push laid out behind the used bytes.
 #![tactic(auto)]
+
 mod choose;
 mod given;
 mod store;
