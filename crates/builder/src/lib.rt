@@ -1,5 +1,6 @@
 // Scripts built piece by piece into a lent buffer: opcodes, data, integers, lock times, and verify folded into the last opcode.
 #![tactic(auto)]
+
 ghost use Rattle.std.specs.Prelude.{◌≡◌, pos, length};
 ghost use Rattle.std.proofs.Math.Option.{none};
 ghost use Rattle.refusal.specs.Refusal.{said_refusal};

@@ -47,7 +47,7 @@ impl Head {
     {
         let mut bytes = self.bytes;
         let len = self.len;
-        let added = store::copy(piece, &mut bytes[len..]);
+        let added = copying::copy(piece, &mut bytes[len..]);
         Head {
             bytes,
             len: len + added,

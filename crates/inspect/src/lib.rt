@@ -52,7 +52,7 @@ fn write_refused(out: &mut [u8]) -> Counted
     if out.len() < REFUSED_LEN {
         return Counted::Refused(Refusal::NoRoom(REFUSED_LEN));
     }
-    Counted::Count(store::copy(b"refused 2800\n", out))
+    Counted::Count(copying::copy(b"refused 2800\n", out))
 }
 
 // Writes a script's screen to the front of a lent buffer and answers its length. For a script over 2,800 bytes the screen is the one line

@@ -22,6 +22,6 @@ pub(crate) fn put_screen(head: Head, script: &[u8], out: &mut [u8])
 {
     let shown = head.bytes;
     let len = head.len;
-    store::copy(&shown[..len], out);
+    copying::copy(&shown[..len], out);
     put_text(script, &mut out[len..]);
 }

@@ -56,7 +56,7 @@ fn put_push(buffer: &mut [u8], at: usize, code: u8, width: usize, body: &[u8])
     buffer[at] = code;
     put_le(buffer, at + 1, width, body.len());
     let start = at + 1 + width;
-    store::copy(body, &mut buffer[start..]);
+    copying::copy(body, &mut buffer[start..]);
 }
 
 // Lays an opcode byte, the form's length bytes and the body behind the used bytes, and answers how many bytes there are then. Refused with 1 where

@@ -70,5 +70,5 @@ pub fn write_name(code: u8, out: &mut [u8]) -> Counted
     if out.len() < name.len() {
         return Counted::Refused(Refusal::NoRoom(name.len()));
     }
-    Counted::Count(store::copy(name, out))
+    Counted::Count(copying::copy(name, out))
 }

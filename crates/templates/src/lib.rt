@@ -146,7 +146,7 @@ fn write_script_code(script: &[u8], out: &mut [u8])
     out[0] = OP_DUP;
     out[1] = OP_HASH160;
     out[2] = HASH160_SIZE;
-    store::copy(&script[PROGRAM_START..], &mut out[HASH_START..]);
+    copying::copy(&script[PROGRAM_START..], &mut out[HASH_START..]);
     out[HASH_END] = OP_EQUALVERIFY;
     out[HASH_END + 1] = OP_CHECKSIG;
 }

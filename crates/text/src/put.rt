@@ -11,7 +11,7 @@ fn put_bytes(out: &mut [u8], n: usize, piece: &[u8]) -> usize
     ensures next { result ≡ n + length piece.now }
     ensures left { out.new ≡ sets out.old n piece.now }
 {
-    n + store::copy(piece, &mut out[n..])
+    n + copying::copy(piece, &mut out[n..])
 }
 
 // The hex digit of a half byte.

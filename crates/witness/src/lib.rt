@@ -1,5 +1,6 @@
 // A witness version and program, written as the script that an output holds.
 #![tactic(auto)]
+
 ghost use Rattle.std.specs.Prelude.{◌≡◌, ◌++◌, ◌+◌, ◌≤◌, length, drop};
 ghost use Rattle.laws.specs.Buffer.{after};
 ghost use Rattle.refusal.specs.Answer.{said_count};
@@ -53,7 +54,7 @@ fn write_program(version: u8, program: &[u8], out: &mut [u8])
 {
     out[0] = version_byte(version);
     out[1] = program.len() as u8;
-    store::copy(program, &mut out[PROGRAM_START..]);
+    copying::copy(program, &mut out[PROGRAM_START..]);
 }
 
 // Writes the script of a witness program to the front of a lent buffer and answers its length. Refused, with the buffer untouched: with 12 for a

@@ -7,7 +7,7 @@ use borrow.Rule.Slice.PartMut.{put_mid}
 use lib.ListN.{length, drop, set, length-set, length-drop}
 use lib.Seq.{sets}
 use Rattle.laws.proofs.Stored.{to_end_lem}
-use Rattle.store.proofs.Whole.{part_copied}
+use Rattle.copying.proofs.Whole.{part_copied}
 use Rattle.templates.proofs.Spending.{code_stored}
 use Rattle.templates.proofs.write_script_code.Goals as goal
 use Rattle.templates.proofs.write_script_code.Goals.{After-copy}

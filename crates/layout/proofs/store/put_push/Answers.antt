@@ -5,7 +5,7 @@ use Prim.Native.Nat.{ℕ, ◌+◌}
 use native.Mathlib.Omega.{arith}
 use lib.ListN.{length, length-set}
 use lib.Seq.{sets}
-use Rattle.store.proofs.Whole.{part_copied}
+use Rattle.copying.proofs.Whole.{part_copied}
 use Rattle.layout.proofs.Stored.{pushed}
 use Rattle.layout.proofs.store.put_push.Goals as goal
 use Rattle.layout.proofs.store.put_push.Goals.{After-put_le}
