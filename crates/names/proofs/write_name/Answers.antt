@@ -1,6 +1,8 @@
 -- `names::write_name` meets its contract: what is copied is the part of the pool at which the tables place the name. Assumes nothing.
-use mathlib.Core.Path.{◌≡◌, ◌∙◌}
+use mathlib.Core.Path.{◌≡◌, ap, ◌∙◌}
 use borrow.Author.Tests.{le-leb, lt-leb}
+use Rattle.laws.specs.Said.{answers}
+use Rattle.store.proofs.Whole.{all_copied, copied_whole}
 use Rattle.pool.specs.Names.{name_of}
 use Rattle.pool.proofs.Pooled.{name_at}
 use Rattle.names.proofs.write_name.Goals as goal
@@ -20,4 +22,8 @@ returns-then-out-name c =
 pub returns : goal.returns
 returns c =
     let s = (goal.at.returns c).After-name_in-name in
-    record { answer = rw (← name s, le-leb _ _ c.if-out-name.false); left = rw (← name s, le-leb _ _ c.if-out-name.false, c.copy_from_slice.ensures.after) }
+    let w = c.name_in-name.result.now in
+    record {
+      answer = rw (← name s, le-leb _ _ c.if-out-name.false) (ap answers (all_copied w _ c.if-out-name.false c.copy.ensures.count));
+      left = rw (← name s, le-leb _ _ c.if-out-name.false) (copied_whole w _ c.if-out-name.false c.copy.ensures.left);
+    }

@@ -2,7 +2,6 @@
 use mathlib.Core.Path.{◌≡◌, sym, ap, ◌∙◌}
 use mathlib.Core.List.{List}
 use native.Mathlib.Omega.{arith}
-use borrow.Author.Rules.{rules}
 use Prim.Native.Nat.{ℕ}
 use Rattle.laws.specs.Said.{answers}
 use Rattle.laws.proofs.Stored.{stored_front}
@@ -14,7 +13,6 @@ use Rattle.text.proofs.write_asm.Goals.{In-Count}
 
 -- where the length is known
 module _ (d : In-Count) where
-
   abbrev script : List ℕ
   script = d.args.script.now
 
@@ -27,7 +25,8 @@ module _ (d : In-Count) where
 pub returns-then-out-needed : goal.returns-then-out-needed
 returns-then-out-needed c =
     let s = (goal.at.returns-then-out-needed c).In-Count in
-    let p = no_room (script s) (old s) (is s) c.if-out-needed.true in record { answer = p.0; left = p.1 }
+    let p = no_room (script s) (old s) (is s) c.if-out-needed.true in
+    record { answer = p.0; left = p.1 }
 
 pub write_text-requires : goal.write_text-requires
 write_text-requires c =
@@ -38,10 +37,13 @@ write_text-requires c =
 pub returns-in-Refused : goal.returns-in-Refused
 returns-in-Refused c =
     let a = c.args in
-    let p = not_measured a.script.now a.out-1.now (sym (ap said_count c.decreases.given.1) ∙ c.asm_len-measured.ensures) in record { answer = p.0; left = p.1 }
+    let p = not_measured a.script.now a.out.now (sym (ap said_count c.in-Refused.is) ∙ c.asm_len-measured.ensures) in
+    record { answer = p.0; left = p.1 }
 
 pub returns-else-out-needed : goal.returns-else-out-needed
 returns-else-out-needed c =
     let s = (goal.at.returns-else-out-needed c).In-Count in
+    let m = measured (script s) (old s) (is s) in
     let p = written (script s) (old s) (is s) c.if-out-needed.false
-(c.write_text.ensures ∙ stored_front (text_of (script s)) (old s) (omega (arith, (measured (script s) (old s) (is s)).1, c.if-out-needed.false))) in record { answer = p.0; left = p.1 }
+    (c.write_text.ensures ∙ stored_front (text_of (script s)) (old s) (omega (arith, m.1, c.if-out-needed.false))) in
+    record { answer = p.0; left = p.1 }

@@ -1,19 +1,11 @@
 -- `text::write_text` meets its contract. The outer invariant: what is left of the text, stored from n on, gives the buffer at the end; its
 -- measure is what is left of the script. The inner one: the length bytes from i on are read; its measure is i. Assumes nothing.
-use mathlib.Core.Path.{◌≡◌, refl, ap, ◌∙◌}
-use mathlib.Core.List.{List, ◌++◌}
-use Prim.Native.Nat.{ℕ, ◌+◌, ◌-◌, ◌≤◌, ◌<◌}
-use native.Mathlib.Omega.{arith}
-use borrow.Author.Rules.{rules}
-use lib.ListN.{length, get_or, take, drop}
-use lib.Seq.{length-sets}
-use Rattle.opcodes.specs.Opcode.{sort_of}
-use Rattle.pool.specs.Text.{text}
-use Rattle.script.specs.Instruction.{Bytes}
-use Rattle.asm.specs.Asm.{opcode_text, data_text, space_at, data_len, text_from, text_of}
-use Rattle.text.proofs.Stored.{Left, begin, on, fits, equal, last}
-use Rattle.asm.proofs.LengthStep.{Stated, few_after, none_yet, cut, more, all, whole}
-use Rattle.asm.proofs.Turn.{ends, says, length_cut, behind, opened, behind_cut, behind_whole}
+use mathlib.Core.Path.{◌≡◌}
+use Prim.Native.Nat.{◌-◌, ◌≤◌}
+use lib.ListN.{length}
+use Rattle.asm.specs.Asm.{text_from, text_of}
+use Rattle.text.proofs.Stored.{Left}
+use Rattle.asm.proofs.LengthStep.{Stated}
 use Rattle.text.proofs.write_text.Given as goal
 
 abbrev pub invariant-loop-i : goal.invariant-loop-i

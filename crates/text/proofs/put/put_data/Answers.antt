@@ -1,13 +1,11 @@
 -- `text::put::put_data` meets its contract: the test on the length picks the case. Assumes nothing.
-use mathlib.Core.Path.{◌≡◌, refl, ap, ◌∙◌}
+use mathlib.Core.Path.{◌≡◌, ap, ◌∙◌}
 use mathlib.Core.List.{◌∷◌}
 use native.Mathlib.Numerals.{add-one}
 use native.Mathlib.Omega.{arith}
 use borrow.Author.Tests.{eq-eqb, ne_eqb}
 use lib.ListN.{length, length-set}
-use lib.Seq.{length-sets}
 use Rattle.asm.specs.Asm.{hex, data_text}
-use borrow.Author.Rules.{rules}
 use Rattle.text.proofs.put.put_data.Goals as goal
 use Rattle.text.proofs.put.put_data.Goals.{Else-bytes-eq0}
 

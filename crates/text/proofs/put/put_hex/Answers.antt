@@ -1,10 +1,9 @@
 -- `text::put::put_hex` meets its contract. The loop's invariant: what is still to be stored, stored from here on, gives the buffer at the end.
 -- The measure is what is left of the bytes. Assumes nothing.
-use mathlib.Core.Path.{◌≡◌, refl, sym, ◌∙◌}
-use Prim.Native.Nat.{◌+◌, ◌-◌, ◌*◌, ◌≤◌}
+use mathlib.Core.Path.{refl, sym, ◌∙◌}
+use Prim.Native.Nat.{◌≤◌}
 use native.Mathlib.Omega.{arith}
-use lib.ListN.{length, drop, length-set, drop_of_length-le}
-use lib.Seq.{sets}
+use lib.ListN.{length, length-set, drop_of_length-le}
 use Rattle.asm.specs.Asm.{hex}
 use Rattle.asm.proofs.Sizes.{hex_length}
 use Rattle.text.proofs.Stored.{store_hex}

@@ -1,13 +1,10 @@
 -- `text::put::put_hex` meets its contract. The loop's invariant: what is still to be stored, stored from here on, gives the buffer at the end.
 -- The measure is what is left of the bytes. Assumes nothing.
-use mathlib.Core.Path.{◌≡◌, refl, sym, ◌∙◌}
+use mathlib.Core.Path.{◌≡◌}
 use Prim.Native.Nat.{◌+◌, ◌-◌, ◌*◌, ◌≤◌}
-use native.Mathlib.Omega.{arith}
-use lib.ListN.{length, drop, length-set, drop_of_length-le}
+use lib.ListN.{length, drop}
 use lib.Seq.{sets}
 use Rattle.asm.specs.Asm.{hex}
-use Rattle.asm.proofs.Sizes.{hex_length}
-use Rattle.text.proofs.Stored.{store_hex}
 use Rattle.text.proofs.put.put_hex.Given as goal
 
 abbrev pub invariant-loop-i : goal.invariant-loop-i

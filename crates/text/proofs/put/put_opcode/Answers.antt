@@ -6,7 +6,6 @@ use lib.ListN.{length}
 use Rattle.pool.specs.Text.{text}
 use Rattle.pool.proofs.Pooled.{name_at}
 use Rattle.asm.specs.Asm.{opcode_text}
-use borrow.Author.Rules.{rules}
 use Rattle.text.proofs.put.put_opcode.Goals as goal
 use Rattle.text.proofs.put.put_opcode.Goals.{After-name_in, Then-code-eq0}
 

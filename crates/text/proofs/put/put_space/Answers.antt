@@ -1,10 +1,9 @@
 -- `text::put::put_space` meets its contract: the test on the place picks the case. Assumes nothing.
-use mathlib.Core.Path.{◌≡◌, refl}
+use mathlib.Core.Path.{◌≡◌}
 use native.Mathlib.Omega.{arith}
 use borrow.Author.Tests.{eq-eqb, ne_eqb}
 use lib.ListN.{length}
 use Rattle.asm.specs.Asm.{space_at}
-use borrow.Author.Rules.{rules}
 use Rattle.text.proofs.put.put_space.Goals as goal
 use Rattle.text.proofs.put.put_space.Goals.{Else-at-eq0}
 
