@@ -1,5 +1,6 @@
 // How long the text of a script is: the measured pass, before any byte is written.
 #![tactic(auto)]
+
 ghost use Rattle.std.specs.Prelude.{◌≡◌, ◌≤◌, length};
 ghost use Rattle.refusal.specs.Refusal.{limit};
 ghost use Rattle.refusal.specs.Answer.{said_count};

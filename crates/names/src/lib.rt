@@ -1,5 +1,6 @@
 // The name of an opcode, read off the pool of names.
 #![tactic(auto)]
+
 ghost use Rattle.std.specs.Prelude.{◌≡◌, ◌+◌, length, get_or};
 ghost use Rattle.laws.specs.Buffer.{writes, after};
 ghost use Rattle.refusal.specs.Answer.{said_count};

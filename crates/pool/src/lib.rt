@@ -1,5 +1,6 @@
 // The opcode names: one pool of bytes, and by opcode where the name starts in it and how long it is.
 #![tactic(auto)]
+
 ghost use Rattle.std.specs.Prelude.{◌≡◌};
 ghost use Rattle.pool.specs.Pool.{pool_of_names, starts_of_names, lengths_of_names};
 

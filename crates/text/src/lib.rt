@@ -1,5 +1,6 @@
 // The text of a script, as the crate's `fmt_asm` writes it: measured first, then written.
 #![tactic(auto)]
+
 ghost use Rattle.std.specs.Prelude.{◌≡◌, ◌≤◌, length};
 ghost use Rattle.std.proofs.lemmas.List.Edits.{sets};
 ghost use Rattle.laws.specs.Buffer.{after};

@@ -7,10 +7,8 @@ use native.Mathlib.Nat.{min-eq_left, min-eq_right}
 use native.Mathlib.Omega.{arith}
 use lib.ListN.{length, take, drop, length-drop, drop_of_length-le}
 use lib.Seq.{take_all, take-nil, drop-length}
-use borrow.Author.Rules.{rules}
 use Rattle.pool.specs.Pool.{placed, place_in}
-use Rattle.names.proofs.name_in.Statement.{statement}
-use Rattle.names.proofs.name_in.Tie as tie
+use Rattle.names.proofs.name_in.Goals as goal
 
 -- the part that was taken of s, which lies at o, and its place
 abbrev Right : List ℕ → ℕ × ℕ → ℕ → ℕ → List ℕ → ℕ → Type 0
@@ -33,30 +31,20 @@ module _ (s : List ℕ) (o : ℕ × ℕ) (a n x l : ℕ) (p : x ≡ a) (q : l �
       let m : x + l - x ≡ n = omega arith in
       (rw (m, p), rw (p, min-eq_left i))
 
-returns : tie.Need-returns
+pub returns-then-size-start : goal.returns-then-size-start
+unfolding placed place_in
+returns-then-size-start c =
+    let g = c.args in
+    let p = past g.pool.now g.pool.ref_ptr _ _ _ _ c.wide16-start.ensures c.name_len_in-len.ensures c.if-size-start.true in record { bytes = p.0; place = p.1 }
+
+pub returns-then-size-start-2 : goal.returns-then-size-start-2
+unfolding placed place_in
+returns-then-size-start-2 c =
+    let g = c.args in
+    let p = short g.pool.now g.pool.ref_ptr _ _ _ _ c.wide16-start.ensures c.name_len_in-len.ensures c.if-size-start.false c.if-size-start-2.true in record { bytes = p.0; place = p.1 }
+
+pub returns : goal.returns
 unfolding placed place_in
 returns c =
-    let l = c.before.before in
-    let g = l.before.before.before.before.args in
-    past g.pool.now g.pool.ref_ptr _ _ _ _ l.before.wide16.ensures l.name-len-in.ensures c.before.if1.true
-
-returns-2 : tie.Need-returns-2
-unfolding placed place_in
-returns-2 c =
-    let l = c.before.before.before in
-    let g = l.before.before.before.before.args in
-    short g.pool.now g.pool.ref_ptr _ _ _ _ l.before.wide16.ensures l.name-len-in.ensures c.before.before.if1.false c.before.if2.true
-
-returns-3 : tie.Need-returns-3
-unfolding placed place_in
-returns-3 c =
-    let l = c.before.before.before in
-    let g = l.before.before.before.before.args in
-    whole g.pool.now g.pool.ref_ptr _ _ _ _ l.before.wide16.ensures l.name-len-in.ensures c.before.before.if1.false
-
-pub name-in-spec : {M : Type 1} → statement M
-name-in-spec =
-    tie.close
-    (tie.spec (λ c. search rules) (λ c. search rules) (λ c κs. search rules) (λ c κs. search rules) (λ c. search rules) (λ c. search rules)
-    (λ c. search rules) returns (λ c. search rules) (λ c. search rules) (λ c. search rules) returns-2 (λ c. search rules) (λ c. search rules)
-    (λ c. search rules) (λ c. search rules) returns-3)
+    let g = c.args in
+    let p = whole g.pool.now g.pool.ref_ptr _ _ _ _ c.wide16-start.ensures c.name_len_in-len.ensures c.if-size-start.false in record { bytes = p.0; place = p.1 }
