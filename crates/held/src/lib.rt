@@ -1,5 +1,6 @@
 // A builder by numbers: two of them go in, and come back behind a call with a refusal's values.
 #![tactic(auto)]
+
 ghost use Rattle.std.specs.Prelude.{◌≡◌, List, [], ℕ, ◌+◌, length};
 ghost use Rattle.opcodes.specs.Opcode.{said_code};
 ghost use Rattle.layout.specs.Answer.{said_answer};

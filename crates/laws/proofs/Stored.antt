@@ -1,4 +1,4 @@
--- Runs of bytes stored in a buffer: what `bytes::copy` leaves there, and runs one behind the other. Assumes nothing.
+-- Runs of bytes stored in a buffer: what `copying::copy` leaves there, and runs one behind the other. Assumes nothing.
 use mathlib.Core.Path.{◌≡◌, ap, ◌∙◌}
 use mathlib.Core.List.{List, [], ◌∷◌, ◌++◌, append-nil, append_assoc}
 use Prim.Native.Nat.{ℕ, suc, ◌+◌, ◌-◌, ◌≤◌}

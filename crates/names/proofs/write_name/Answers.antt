@@ -2,7 +2,7 @@
 use mathlib.Core.Path.{◌≡◌, ap, ◌∙◌}
 use borrow.Author.Tests.{le-leb, lt-leb}
 use Rattle.laws.specs.Said.{answers}
-use Rattle.store.proofs.Whole.{all_copied, copied_whole}
+use Rattle.copying.proofs.Whole.{all_copied, copied_whole}
 use Rattle.pool.specs.Names.{name_of}
 use Rattle.pool.proofs.Pooled.{name_at}
 use Rattle.names.proofs.write_name.Goals as goal

@@ -2,7 +2,7 @@
 use native.Mathlib.Omega.{arith}
 use lib.ListN.{length-drop}
 use Rattle.laws.proofs.Stored.{to_end_lem}
-use Rattle.store.proofs.Whole.{part_copied}
+use Rattle.copying.proofs.Whole.{part_copied}
 use Rattle.text.proofs.put.put_bytes.Goals as goal
 
 pub returns : goal.returns
