@@ -1,5 +1,6 @@
 // The screen up to the text, made line by line.
 #![tactic(auto)]
+
 ghost use Rattle.std.specs.Prelude.{◌≡◌, [], ◌∷◌, ◌++◌, ◌+◌, ◌≤◌, length, take, drop};
 ghost use Rattle.pool.specs.Text.{text, decimal};
 ghost use Rattle.templates.specs.Answer.{said_template};

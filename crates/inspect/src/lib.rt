@@ -1,5 +1,6 @@
 // The inspector's screen: what the other crates say of a script, in five lines.
 #![tactic(auto)]
+
 ghost use Rattle.std.specs.Prelude.{◌≡◌, ◌≤◌, ltb, length};
 ghost use Rattle.laws.specs.Buffer.{writes, after};
 ghost use Rattle.refusal.specs.Answer.{said_count};
