@@ -2,6 +2,7 @@
 // none, and puts its values at the front of a slice that it is lent. Where that slice is too short for them it returns SHORT_VALUES, which is no
 // refusal, and changes nothing. include/brinebutton.h says what the values are.
 #![tactic(auto)]
+
 mod amounts;
 mod build;
 mod codes;

@@ -1,0 +1,17 @@
+-- `boundary::build::bb_builder_push_int` meets its contract: what the call leaves is handed over. Assumes nothing.
+use mathlib.Core.Path.{ap, ◌∙◌}
+use mir.Facts.{to_z-of_z}
+use Rattle.builder.specs.Answer.{calls_by}
+use Rattle.building.specs.Builder.{push_int}
+use Rattle.building.specs.Lent.{Outcome}
+use Rattle.hand.proofs.Handing.{builds_short, builds_as, calls_as, kept, changed}
+use Rattle.boundary.proofs.build.bb_builder_push_int.Goals as goal
+
+pub returns-then-values-lt-STATE_VALUES : goal.returns-then-values-lt-STATE_VALUES
+returns-then-values-lt-STATE_VALUES c =
+    (builds_short _ _ c.if-values-lt-STATE_VALUES.true, kept _ _ c.if-values-lt-STATE_VALUES.true)
+
+pub returns : goal.returns
+returns c =
+    let e = c.push_int.ensures ∙ ap (λ n. calls_by c.builder_of.result (push_int n) c.args.buffer.now) (to_z-of_z c.ranges.n) ∙ calls_as (push_int c.args.n) c.args.buffer.now c.builder_of.ensures.0 c.builder_of.ensures.1 in
+    (builds_as _ (c.built.ensures _) e, changed _ _ c.if-values-lt-STATE_VALUES.false (ap (λ (o : Outcome). o.buffer) e))
