@@ -1,150 +1,158 @@
 // Prints what the builder's calls leave at the edges of their inputs, one line for each call: the answer, the builder for the next call, and the
 // first bytes of the buffer. A buffer is filled with 0xee before the first call, so that a byte that was not written shows.
 #![tactic(auto)]
+
 use builder::{Answer, Builder, Built};
 use opcodes::Code;
+use std::io;
 
-fn answered(answer: Answer) {
+fn answered(rt: &impl Print, answer: Answer) -> io::Result<()> {
     match answer {
-        Answer::Done => show::text(b" done"),
-        Answer::Refused(r) => show::refused(r),
+        Answer::Done => show::text(rt, b" done"),
+        Answer::Refused(r) => show::refused(rt, r),
     }
 }
 
-fn remembers(remembered: Code) {
+fn remembers(rt: &impl Print, remembered: Code) -> io::Result<()> {
     match remembered {
         Code::Is(code) => {
             let one = [code];
-            show::text(b" remembers");
-            show::hex(&one);
+            show::text(rt, b" remembers")?;
+            show::hex(rt, &one)
         }
-        Code::Nothing => show::text(b" remembers nothing"),
+        Code::Nothing => show::text(rt, b" remembers nothing"),
     }
 }
 
 // At most ten bytes.
-fn first_bytes(buffer: &[u8]) {
-    show::text(b" buffer");
+fn first_bytes(rt: &impl Print, buffer: &[u8]) -> io::Result<()> {
+    show::text(rt, b" buffer")?;
     if 10 < buffer.len() {
-        show::hex(&buffer[..10]);
+        show::hex(rt, &buffer[..10])
     } else {
-        show::hex(buffer);
+        show::hex(rt, buffer)
     }
 }
 
 // What a call left, and the builder for the next one.
-fn left(call: &[u8], built: Built, buffer: &[u8]) -> Builder {
+fn left(rt: &impl Print, call: &[u8], built: Built, buffer: &[u8]) -> io::Result<Builder> {
     let answer = built.answer;
     let builder = built.builder;
     let remembered = builder.remembered;
-    show::text(call);
-    show::text(b":");
-    answered(answer);
-    show::named(b"length", builder.length);
-    remembers(remembered);
-    show::named(b"shown", builder.as_bytes(buffer).len());
-    first_bytes(buffer);
-    show::line_end();
-    builder
+    show::text(rt, call)?;
+    show::text(rt, b":")?;
+    answered(rt, answer)?;
+    show::named(rt, b"length", builder.length)?;
+    remembers(rt, remembered)?;
+    show::named(rt, b"shown", builder.as_bytes(buffer).len())?;
+    first_bytes(rt, buffer)?;
+    show::line_end(rt)?;
+    Ok(builder)
 }
 
-fn start(buffer: &[u8], length: usize) -> Builder {
-    left(b"start", Builder::start(buffer, length), buffer)
+fn start(rt: &impl Print, buffer: &[u8], length: usize) -> io::Result<Builder> {
+    left(rt, b"start", Builder::start(buffer, length), buffer)
 }
 
-fn opcode(builder: Builder, buffer: &mut [u8], code: u8) -> Builder {
-    left(b"opcode", builder.push_opcode(buffer, code), buffer)
+fn opcode(rt: &impl Print, builder: Builder, buffer: &mut [u8], code: u8) -> io::Result<Builder> {
+    left(rt, b"opcode", builder.push_opcode(buffer, code), buffer)
 }
 
-fn slice(builder: Builder, buffer: &mut [u8], body: &[u8]) -> Builder {
-    left(b"push", builder.push_slice(buffer, body), buffer)
+fn slice(rt: &impl Print, builder: Builder, buffer: &mut [u8], body: &[u8]) -> io::Result<Builder> {
+    left(rt, b"push", builder.push_slice(buffer, body), buffer)
 }
 
-fn int(builder: Builder, buffer: &mut [u8], n: i64) -> Builder {
-    left(b"int", builder.push_int(buffer, n), buffer)
+fn int(rt: &impl Print, builder: Builder, buffer: &mut [u8], n: i64) -> io::Result<Builder> {
+    left(rt, b"int", builder.push_int(buffer, n), buffer)
 }
 
-fn verify(builder: Builder, buffer: &mut [u8]) -> Builder {
-    left(b"verify", builder.push_verify(buffer), buffer)
+fn verify(rt: &impl Print, builder: Builder, buffer: &mut [u8]) -> io::Result<Builder> {
+    left(rt, b"verify", builder.push_verify(buffer), buffer)
 }
 
 // A body of so many bytes.
-fn slice_of(buffer: &mut [u8], body: &[u8], len: usize) {
+fn slice_of(rt: &impl Print, buffer: &mut [u8], body: &[u8], len: usize) -> io::Result<()> {
     if len <= body.len() {
-        slice(Builder::new(), buffer, &body[..len]);
+        slice(rt, Builder::new(), buffer, &body[..len])?;
     }
+    Ok(())
 }
 
 // The length forms at both sides of where they change.
-fn forms() {
+fn forms(rt: &impl Print) -> io::Result<()> {
     let body = [0xaau8; 65536];
     let mut buffer = [0xeeu8; 65541];
-    slice_of(&mut buffer, &body, 0);
-    slice_of(&mut buffer, &body, 75);
-    slice_of(&mut buffer, &body, 76);
-    slice_of(&mut buffer, &body, 255);
-    slice_of(&mut buffer, &body, 256);
-    slice_of(&mut buffer, &body, 65535);
-    slice_of(&mut buffer, &body, 65536);
+    slice_of(rt, &mut buffer, &body, 0)?;
+    slice_of(rt, &mut buffer, &body, 75)?;
+    slice_of(rt, &mut buffer, &body, 76)?;
+    slice_of(rt, &mut buffer, &body, 255)?;
+    slice_of(rt, &mut buffer, &body, 256)?;
+    slice_of(rt, &mut buffer, &body, 65535)?;
+    slice_of(rt, &mut buffer, &body, 65536)
 }
 
-fn int_line(n: i64) {
+fn int_line(rt: &impl Print, n: i64) -> io::Result<()> {
     let mut buffer = [0xeeu8; 10];
-    int(Builder::new(), &mut buffer, n);
+    int(rt, Builder::new(), &mut buffer, n)?;
+    Ok(())
 }
 
-fn ints() {
-    int_line(-1);
-    int_line(0);
-    int_line(1);
-    int_line(16);
-    int_line(17);
-    int_line(128);
-    int_line(-255);
-    int_line(2147483648);
-    int_line(i64::MIN + 1);
-    int_line(i64::MIN);
+fn ints(rt: &impl Print) -> io::Result<()> {
+    int_line(rt, -1)?;
+    int_line(rt, 0)?;
+    int_line(rt, 1)?;
+    int_line(rt, 16)?;
+    int_line(rt, 17)?;
+    int_line(rt, 128)?;
+    int_line(rt, -255)?;
+    int_line(rt, 2147483648)?;
+    int_line(rt, i64::MIN + 1)?;
+    int_line(rt, i64::MIN)
 }
 
 // Document 01's W12: verify in one byte; again, with no room; and with room for one more.
-fn marked() {
+fn marked(rt: &impl Print) -> io::Result<()> {
     let mut one = [0x87u8; 1];
-    let builder = verify(start(&one, 1), &mut one);
-    verify(builder, &mut one);
+    let builder = verify(rt, start(rt, &one, 1)?, &mut one)?;
+    verify(rt, builder, &mut one)?;
     let mut two = [0x88u8, 0xee];
-    verify(start(&two, 1), &mut two);
+    verify(rt, start(rt, &two, 1)?, &mut two)?;
+    Ok(())
 }
 
 // What was remembered wins over what a walk would say: `01 87` is one push, and verify folds the 87.
-fn remembered() {
+fn remembered(rt: &impl Print) -> io::Result<()> {
     let mut buffer = [0xeeu8; 4];
-    let first = opcode(Builder::new(), &mut buffer, 0x01);
-    let second = opcode(first, &mut buffer, 0x87);
-    let third = verify(second, &mut buffer);
-    let fourth = int(third, &mut buffer, 0);
-    verify(fourth, &mut buffer);
+    let first = opcode(rt, Builder::new(), &mut buffer, 0x01)?;
+    let second = opcode(rt, first, &mut buffer, 0x87)?;
+    let third = verify(rt, second, &mut buffer)?;
+    let fourth = int(rt, third, &mut buffer, 0)?;
+    verify(rt, fourth, &mut buffer)?;
+    Ok(())
 }
 
 // After a data push nothing is remembered, so that verify appends.
-fn forgotten() {
+fn forgotten(rt: &impl Print) -> io::Result<()> {
     let mut buffer = [0xeeu8; 6];
-    let first = opcode(Builder::new(), &mut buffer, 0x87);
-    let second = slice(first, &mut buffer, b"\x05");
-    verify(second, &mut buffer);
+    let first = opcode(rt, Builder::new(), &mut buffer, 0x87)?;
+    let second = slice(rt, first, &mut buffer, b"\x05")?;
+    verify(rt, second, &mut buffer)?;
+    Ok(())
 }
 
 // Exact room, and one byte short.
-fn room() {
+fn room(rt: &impl Print) -> io::Result<()> {
     let mut four = [0xeeu8; 4];
-    slice(Builder::new(), &mut four, b"abc");
+    slice(rt, Builder::new(), &mut four, b"abc")?;
     let mut three = [0xeeu8; 3];
-    slice(Builder::new(), &mut three, b"abc");
+    slice(rt, Builder::new(), &mut three, b"abc")?;
     let mut none = [0xeeu8; 0];
-    opcode(Builder::new(), &mut none, 0x51);
+    opcode(rt, Builder::new(), &mut none, 0x51)?;
+    Ok(())
 }
 
 // A length over the limit, one over the buffer's, an opcode remembered with no byte used, and another last byte. -2^63 comes after these.
-fn bad() {
+fn bad(rt: &impl Print) -> io::Result<()> {
     let mut buffer = [0xeeu8; 3];
     let nothing = Code::Nothing;
     let equal = Code::Is(0x87);
@@ -164,46 +172,51 @@ fn bad() {
         length: 1,
         remembered: equal,
     };
-    opcode(long, &mut buffer, 0x51);
-    int(over, &mut buffer, i64::MIN);
-    slice(empty, &mut buffer, b"");
-    verify(other, &mut buffer);
+    opcode(rt, long, &mut buffer, 0x51)?;
+    int(rt, over, &mut buffer, i64::MIN)?;
+    slice(rt, empty, &mut buffer, b"")?;
+    verify(rt, other, &mut buffer)?;
+    Ok(())
 }
 
 // Bytes that are taken over.
-fn starts() {
-    start(b"\x87", 1);
-    start(b"\x00", 1);
-    start(b"\x01\x87", 2);
-    start(b"\x4c", 1);
-    start(b"\x01\x87\x87\xac", 3);
-    start(b"", 0);
-    start(b"\x87", 2);
-    start(b"\x87", 4194305);
+fn starts(rt: &impl Print) -> io::Result<()> {
+    start(rt, b"\x87", 1)?;
+    start(rt, b"\x00", 1)?;
+    start(rt, b"\x01\x87", 2)?;
+    start(rt, b"\x4c", 1)?;
+    start(rt, b"\x01\x87\x87\xac", 3)?;
+    start(rt, b"", 0)?;
+    start(rt, b"\x87", 2)?;
+    start(rt, b"\x87", 4194305)?;
+    Ok(())
 }
 
-fn times() {
+fn times(rt: &impl Print) -> io::Result<()> {
     let mut buffer = [0xeeu8; 12];
     let first = left(
+        rt,
         b"lock time",
         Builder::new().push_lock_time(&mut buffer, 500000),
         &buffer,
-    );
+    )?;
     left(
+        rt,
         b"sequence",
         first.push_sequence(&mut buffer, 4294967295),
         &buffer,
-    );
+    )?;
+    Ok(())
 }
 
-fn main() {
-    forms();
-    ints();
-    marked();
-    remembered();
-    forgotten();
-    room();
-    bad();
-    starts();
-    times();
+fn main(rt: HostRuntime) -> io::Result<()> {
+    forms(&rt)?;
+    ints(&rt)?;
+    marked(&rt)?;
+    remembered(&rt)?;
+    forgotten(&rt)?;
+    room(&rt)?;
+    bad(&rt)?;
+    starts(&rt)?;
+    times(&rt)
 }
