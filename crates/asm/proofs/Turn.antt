@@ -8,7 +8,7 @@ use borrow.Author.Tests.{lt-ltb, le-ltb, le-leb, lt-leb}
 use mathlib.Core.Logic.{⊎_elim}
 use lib.Dec.{ltb}
 use lib.ListN.{length, get_or, take, drop}
-use Rattle.laws.specs.Choice.{if◌then◌else◌}
+use Rattle.std.specs.Prelude.{if◌then◌else◌}
 use Rattle.laws.proofs.Test.{lt_or_le}
 use Rattle.opcodes.specs.Opcode.{sort_of, length_bytes_after}
 use Rattle.pool.specs.Text.{text}

@@ -1,6 +1,6 @@
 -- The text of a script, from document 01, 'Text', in the order of the crate's bytes_to_asm_fmt. Assumes nothing.
 use Rattle.std.specs.Prelude.{List, [], ◌∷◌, ◌++◌, ℕ, zero, suc, ◌+◌, ◌-◌, ◌/◌, ◌%◌, min, ltb, leb, eqb, length, get_or, take, drop}
-use Rattle.laws.specs.Choice.{if◌then◌else◌}
+use Rattle.std.specs.Prelude.{if◌then◌else◌}
 use Rattle.laws.specs.Said.{Said, answers}
 use Rattle.laws.specs.Buffer.{writes}
 use Rattle.refusal.specs.Refusal.{within_limit}

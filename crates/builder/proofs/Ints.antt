@@ -11,7 +11,7 @@ use lib.ListN.{length, take, drop}
 use lib.Seq.{take_at}
 use mir.Syntax.{w64}
 use mir.Val.{SFits}
-use Rattle.laws.specs.Choice.{if◌then◌else◌}
+use Rattle.std.specs.Prelude.{if◌then◌else◌}
 use Rattle.laws.specs.Said.{answers, refuses}
 use Rattle.laws.specs.Buffer.{writes, after}
 use Rattle.refusal.specs.Refusal.{number_of, values_of, said_refusal}

@@ -1,7 +1,7 @@
 -- What each builder call makes of the script so far, from document 01, 'Builder'. Assumes nothing.
 use Rattle.std.specs.Prelude.{false, List, [], ◌∷◌, ◌++◌, ℕ, ◌+◌, ◌-◌, leb, eqb, ℤ, pos, negsuc, length, take}
 use Rattle.std.proofs.Math.Option.{Option, none, some}
-use Rattle.laws.specs.Choice.{if◌then◌else◌}
+use Rattle.std.specs.Prelude.{if◌then◌else◌}
 use Rattle.laws.specs.Said.{Said, answers, refuses}
 use Rattle.opcodes.specs.Core.{OP_0, OP_1NEGATE, OP_1, OP_VERIFY}
 use Rattle.opcodes.specs.Opcode.{PushForm, direct, pushdata1, pushdata2, pushdata4, verify_of}

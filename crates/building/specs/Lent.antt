@@ -1,7 +1,7 @@
 -- A builder call over a lent buffer: the refusals in document 01's order, and what the call leaves. Assumes nothing.
 use Rattle.std.specs.Prelude.{◌≡◌, Bool, false, not, ◌||◌, List, [], ◌∷◌, ◌++◌, ℕ, ◌-◌, ltb, eqb, length, take, drop, get_or}
 use Rattle.std.proofs.Math.Option.{Option, none, some}
-use Rattle.laws.specs.Choice.{if◌then◌else◌}
+use Rattle.std.specs.Prelude.{if◌then◌else◌}
 use Rattle.laws.specs.Said.{Said, answers, refuses, unless}
 use Rattle.refusal.specs.Refusal.{limit}
 use Rattle.building.specs.Builder.{State, Call}

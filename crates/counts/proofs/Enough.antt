@@ -7,7 +7,7 @@ use native.Mathlib.Omega.{arith}
 use borrow.Author.Tests.{le-ltb}
 use lib.Dec.{ltb, leb, eqb}
 use lib.ListN.{length, get_or}
-use Rattle.laws.specs.Choice.{if◌then◌else◌}
+use Rattle.std.specs.Prelude.{if◌then◌else◌}
 use Rattle.laws.proofs.Test.{by_test}
 use Rattle.opcodes.specs.Core.{OP_PUSHDATA1, OP_PUSHDATA2, OP_PUSHDATA4, OP_INVALIDOPCODE}
 use Rattle.script.specs.Script.{ScriptOp, fails, reads, read_le, assign, sized, operand, get_script_op}

@@ -1,6 +1,6 @@
 -- How Bitcoin Core 25.0 counts signature operations: CScript::GetSigOpCount of script/script.cpp. Assumes nothing.
 use Rattle.std.specs.Prelude.{Bool, ◌&&◌, ◌||◌, List, ℕ, zero, suc, ◌+◌, ltb, leb, eqb, length}
-use Rattle.laws.specs.Choice.{if◌then◌else◌}
+use Rattle.std.specs.Prelude.{if◌then◌else◌}
 use Rattle.laws.specs.Said.{Said, answers}
 use Rattle.refusal.specs.Refusal.{within_limit}
 use Rattle.opcodes.specs.Core.{

@@ -1,6 +1,6 @@
 -- Dust, from document 01, 'Counts and dust', over unbounded numbers. Assumes nothing.
 use Rattle.std.specs.Prelude.{List, [], ℕ, ◌+◌, ◌*◌, ◌/◌, ltb, leb, length}
-use Rattle.laws.specs.Choice.{if◌then◌else◌}
+use Rattle.std.specs.Prelude.{if◌then◌else◌}
 use Rattle.laws.specs.Said.{Said, answers, refuses}
 use Rattle.refusal.specs.Refusal.{within_limit}
 use Rattle.fixed.specs.Fixed.{is_witness_program, is_op_return}

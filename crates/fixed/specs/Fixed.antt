@@ -1,7 +1,7 @@
 -- Templates whose bytes stand at fixed places of a script. Assumes nothing.
 use Rattle.std.specs.Prelude.{Bool, ◌&&◌, ◌||◌, List, [], ◌∷◌, ◌++◌, ℕ, ◌+◌, ◌-◌, leb, eqb, length, get_or, drop}
 use Rattle.std.proofs.Math.Option.{Option, none, some}
-use Rattle.laws.specs.Choice.{if◌then◌else◌}
+use Rattle.std.specs.Prelude.{if◌then◌else◌}
 use Rattle.opcodes.specs.Core.{OP_0, OP_1, OP_16, OP_RETURN, OP_DUP, OP_EQUAL, OP_EQUALVERIFY, OP_HASH160, OP_CHECKSIG, decode_op_n}
 
 -- CScript::IsPayToScriptHash of Core's script/script.cpp: size 23; byte 0 is OP_HASH160, byte 1 is 0x14, byte 22 is OP_EQUAL

@@ -11,7 +11,7 @@ use lib.Dec.{ltb}
 use lib.Seq.{sets}
 use lib.IntN.{ℤ}
 use lib.ListN.{length, drop, set}
-use Rattle.laws.specs.Choice.{if◌then◌else◌}
+use Rattle.std.specs.Prelude.{if◌then◌else◌}
 use Rattle.laws.specs.Said.{Said, answers, refuses}
 use Rattle.refusal.specs.Refusal.{said_refusal}
 use Rattle.refusal.specs.Refusal as refusals

@@ -1,7 +1,7 @@
 -- The convention by which an answer goes over to C: a number, and values at the front of a lent slice. Assumes nothing.
 use Rattle.std.specs.Prelude.{Bool, not, ◌||◌, List, [], ◌∷◌, ◌++◌, ℕ, ◌≤◌, ltb, eqb, ℤ, length, drop}
 use Rattle.std.proofs.Math.Option.{Option, none, some}
-use Rattle.laws.specs.Choice.{if◌then◌else◌}
+use Rattle.std.specs.Prelude.{if◌then◌else◌}
 use Rattle.laws.specs.Said.{Said, answers, refuses}
 use Rattle.opcodes.specs.Opcode.{Sort, length_bytes}
 use Rattle.opcodes.specs.Opcode as sort

@@ -1,6 +1,6 @@
 -- What a call that writes says, and what it leaves in the buffer that it was lent. Assumes nothing.
 use Rattle.std.specs.Prelude.{List, [], ◌∷◌, ◌++◌, ℕ, leb, length, drop}
-use Rattle.laws.specs.Choice.{if◌then◌else◌}
+use Rattle.std.specs.Prelude.{if◌then◌else◌}
 use Rattle.laws.specs.Said.{Said, answers, refuses}
 
 -- refusal 7 comes last and names what is needed; else all is written, and the answer is its count

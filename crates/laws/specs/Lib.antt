@@ -1,4 +1,3 @@
-pub mod Choice
 pub mod Said
 pub mod Buffer
 pub mod Bytes

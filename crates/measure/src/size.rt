@@ -1,6 +1,6 @@
 // How many bytes each part of an instruction has, in the script and in the text.
 ghost use Rattle.std.specs.Prelude.{◌≡◌, ◌+◌, ◌*◌, ◌≤◌, ◌<◌, ltb, eqb, length};
-ghost use Rattle.laws.specs.Choice.{if◌then◌else◌};
+ghost use Rattle.std.specs.Prelude.{if◌then◌else◌};
 ghost use Rattle.refusal.specs.Refusal.{limit};
 ghost use Rattle.opcodes.specs.Opcode.{sort_of, length_bytes_after};
 ghost use Rattle.pool.specs.Pool.{lengths_of_names};

@@ -12,7 +12,7 @@ use lib.Count.{leading_top}
 use lib.ListN.{length}
 use lib.Pow.{pow_mono, pow-add}
 pub use Rattle.laws.specs.Bytes.{Bytes}
-use Rattle.laws.specs.Choice.{if◌then◌else◌}
+use Rattle.std.specs.Prelude.{if◌then◌else◌}
 use Rattle.laws.proofs.Test.{lt_or_le}
 use Rattle.numbers.specs.ScriptNum.{low_bytes, close_sign}
 

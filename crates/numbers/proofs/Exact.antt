@@ -12,7 +12,7 @@ use lib.Dec.{ltb, leb, leb→le, le→leb}
 use lib.IntN.{ℤ, pos, negsuc, neg_ℤ, nat_abs}
 use lib.ListN.{length}
 use lib.Signed.{◌≤ℤ◌}
-use Rattle.laws.specs.Choice.{if◌then◌else◌}
+use Rattle.std.specs.Prelude.{if◌then◌else◌}
 use Rattle.laws.specs.Said.{answers, refuses}
 use Rattle.laws.proofs.Test.{lt_or_le, and_left}
 use Rattle.numbers.specs.ScriptNum.{serialize, back, non_minimal, set_vch, n_default_max_num_size, script_num}

@@ -9,7 +9,7 @@ use borrow.Author.Tests.{eq-eqb, ne_eqb}
 use lib.Dec.{eqb}
 use lib.ListN.{length, drop, get_or, length-drop, drop_of_length-le}
 use lib.Seq.{drop-cons}
-use Rattle.laws.specs.Choice.{if◌then◌else◌}
+use Rattle.std.specs.Prelude.{if◌then◌else◌}
 use Rattle.numbers.specs.ScriptNum.{cast_to_bool}
 
 module _ (v : List ℕ) (i : ℕ) where

@@ -13,7 +13,7 @@ use lib.Dec.{leb}
 use lib.IntN.{pos, neg_ℤ}
 use lib.ListN.{length, get_or, drop, length-drop}
 use lib.Seq.{drop-cons, drop-length, get_or-drop}
-use Rattle.laws.specs.Choice.{if◌then◌else◌}
+use Rattle.std.specs.Prelude.{if◌then◌else◌}
 use Rattle.laws.proofs.Test.{lt_or_le}
 use Rattle.numbers.specs.ScriptNum.{little_endian, back, non_minimal, set_vch}
 use Rattle.numbers.proofs.Coded.{Coded, only, apart, low, Bytes, positive}

@@ -13,7 +13,7 @@ use lib.Pow.{pow_pos}
 use lib.Signed.{lt_z}
 use mir.Syntax.{w64}
 use mir.Val.{SFits}
-use Rattle.laws.specs.Choice.{if◌then◌else◌}
+use Rattle.std.specs.Prelude.{if◌then◌else◌}
 use Rattle.numbers.specs.ScriptNum.{low_bytes, close_sign, serialize}
 use Rattle.numbers.specs.Answer.{is_least}
 use Rattle.numbers.proofs.Coded.{Coded, Bytes, bit, bit_is, closed_coded, coded_bytes, coded_length, short_small, small_short}

@@ -1,6 +1,6 @@
 -- What the entries say, from document 01, 'Numbers' and its refusals 1, 6 and 7. Assumes nothing.
 use Rattle.std.specs.Prelude.{Bool, false, List, [], ℕ, suc, ◌^◌, eqb, ℤ, pos, negsuc, length}
-use Rattle.laws.specs.Choice.{if◌then◌else◌}
+use Rattle.std.specs.Prelude.{if◌then◌else◌}
 use Rattle.laws.specs.Said.{Said, answers, refuses}
 use Rattle.laws.specs.Buffer.{writes}
 use Rattle.refusal.specs.Refusal.{within_limit, said_refusal}

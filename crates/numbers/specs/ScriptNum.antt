@@ -2,7 +2,7 @@
 -- the byte is at least 0x80, and `b % 0x80` is the byte without it. Assumes nothing.
 use Rattle.std.specs.Prelude.{Bool, true, false, ◌&&◌, ◌||◌, List, [], ◌∷◌, ℕ, zero, suc, ◌+◌, ◌-◌, ◌*◌, ◌/◌, ◌%◌, ◌^◌, ltb, leb, eqb, ℤ, pos, neg_ℤ, nat_abs, length, get_or}
 use Rattle.std.specs.Int.Signed.{lt_z}
-use Rattle.laws.specs.Choice.{if◌then◌else◌}
+use Rattle.std.specs.Prelude.{if◌then◌else◌}
 use Rattle.laws.specs.Said.{Said, answers, refuses}
 
 -- serialize's loop, `while (absvalue) { result.push_back(absvalue & 0xff); absvalue >>= 8; }`, for at most `turns` turns

@@ -1,6 +1,6 @@
 // Numbers read, strictly or not, and bytes read as yes or no.
 ghost use Rattle.std.specs.Prelude.{◌≡◌, true, false, ◌&&◌, ◌<◌, ◌≤◌, ◌^◌, pos, neg_ℤ, length};
-ghost use Rattle.laws.specs.Choice.{if◌then◌else◌};
+ghost use Rattle.std.specs.Prelude.{if◌then◌else◌};
 ghost use Rattle.refusal.specs.Answer.{said_judged};
 ghost use Rattle.numbers.specs.ScriptNum.{set_vch, non_minimal, script_num, cast_to_bool, n_default_max_num_size};
 ghost use Rattle.numbers.specs.Answer.{said_number, bool_says};

@@ -1,6 +1,6 @@
 // How many bytes a number takes, and its bytes written into a lent buffer.
 ghost use Rattle.std.specs.Prelude.{◌≡◌, false, ◌++◌, ◌<◌, ◌≤◌, ℤ, nat_abs, length, drop};
-ghost use Rattle.laws.specs.Choice.{if◌then◌else◌};
+ghost use Rattle.std.specs.Prelude.{if◌then◌else◌};
 ghost use Rattle.laws.specs.Buffer.{after};
 ghost use Rattle.refusal.specs.Answer.{said_count};
 ghost use Rattle.numbers.specs.ScriptNum.{low_bytes, close_sign, serialize};

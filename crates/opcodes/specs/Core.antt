@@ -1,6 +1,6 @@
 -- Opcodes by their names in Core's script/script.h, enum opcodetype: those that a definition tests for. Assumes nothing.
 use Rattle.std.specs.Prelude.{ℕ, ◌-◌, eqb}
-use Rattle.laws.specs.Choice.{if◌then◌else◌}
+use Rattle.std.specs.Prelude.{if◌then◌else◌}
 
 abbrev pub OP_0 : ℕ
 OP_0 = 0x00

@@ -1,7 +1,7 @@
 -- Opcode bytes, from document 01, 'Opcodes'. Assumes nothing.
 use Rattle.std.proofs.Math.Option.{Option, none, some}
 use Rattle.std.specs.Prelude.{ℕ, ◌-◌, ltb, eqb}
-use Rattle.laws.specs.Choice.{if◌then◌else◌}
+use Rattle.std.specs.Prelude.{if◌then◌else◌}
 use Rattle.opcodes.specs.declared.Form.{Form}
 use Rattle.opcodes.specs.declared.Form.TheVariants.{Direct, PushData1, PushData2, PushData4}
 use Rattle.opcodes.specs.declared.Class.{Class}

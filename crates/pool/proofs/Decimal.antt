@@ -6,7 +6,7 @@ use native.Mathlib.Nat.{lt_of_lt_of_le, pow-suc, pow-le-pow_right}
 use native.Mathlib.Omega.{arith}
 use borrow.Author.Tests.{lt-ltb}
 use lib.Dec.{ltb}
-use Rattle.laws.specs.Choice.{if◌then◌else◌}
+use Rattle.std.specs.Prelude.{if◌then◌else◌}
 use Rattle.pool.specs.Text.{digits, decimal}
 
 enough : (a b n : ℕ) (rest : List ℕ) → n < 10 ^ suc a → n < 10 ^ suc b → digits (suc a) n rest ≡ digits (suc b) n rest

@@ -1,7 +1,7 @@
 -- The name of each opcode, from document 01, module 1, 'Opcodes'. Assumes nothing.
 use Rattle.std.specs.Prelude.{List, [], ◌∷◌, ◌++◌, ℕ, ◌-◌, ltb, get_or}
 use Prim.Native.String.{String}
-use Rattle.laws.specs.Choice.{if◌then◌else◌}
+use Rattle.std.specs.Prelude.{if◌then◌else◌}
 use Rattle.pool.specs.Text.{text, decimal}
 
 -- 0x4c to 0x50: the three length forms, OP_PUSHNUM_NEG1 (0x4f) and OP_RESERVED (0x50)

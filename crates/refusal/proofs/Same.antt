@@ -4,7 +4,7 @@ use mathlib.Core.List.{List, [], ◌∷◌}
 use Prim.Native.Nat.{ℕ}
 use lib.Dec.{eqb}
 use lib.ListN.{get_or}
-use Rattle.laws.specs.Choice.{if◌then◌else◌}
+use Rattle.std.specs.Prelude.{if◌then◌else◌}
 use Rattle.refusal.specs.Refusal.{number_of, values_of, said_refusal}
 use Rattle.refusal.specs.Answer.{said_value, said_count, said_judged}
 use Rattle.refusal.specs.declared.Value.{Value}

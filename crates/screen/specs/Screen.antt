@@ -1,7 +1,7 @@
 -- The inspector's screen, from document 01, 'The inspector reads one raw script ..', made of the other crates' definitions. Assumes nothing.
 use Rattle.std.specs.Prelude.{true, false, List, [], ◌∷◌, ◌++◌, ℕ, ltb, length}
 use Prim.Native.String.{String}
-use Rattle.laws.specs.Choice.{if◌then◌else◌}
+use Rattle.std.specs.Prelude.{if◌then◌else◌}
 use Rattle.laws.specs.Said.{Said}
 use Rattle.laws.specs.Buffer.{writes}
 use Rattle.pool.specs.Text.{text, decimal}

@@ -11,7 +11,7 @@ use borrow.Author.Tests.{lt-ltb, le-ltb, le-leb, lt-leb, eq-eqb, ne_eqb, ltb-tru
 use lib.Dec.{ltb, leb, eqb}
 use lib.ListN.{length, get_or, take, drop, length-drop}
 use lib.Seq.{length-take-le, get_or-take, get_or-drop}
-use Rattle.laws.specs.Choice.{if◌then◌else◌}
+use Rattle.std.specs.Prelude.{if◌then◌else◌}
 use Rattle.laws.specs.Said.{Said, answers, refuses}
 use Rattle.laws.proofs.Test.{by_test, lt_or_le}
 use Rattle.refusal.specs.Refusal.{limit}

@@ -1,6 +1,6 @@
 -- How Bitcoin Core 25.0 reads a script: GetScriptOp and CheckMinimalPush of script/script.cpp. Assumes nothing.
 use Rattle.std.specs.Prelude.{Bool, true, false, ◌&&◌, List, [], ℕ, zero, suc, ◌+◌, ◌-◌, ◌*◌, ltb, leb, eqb, length, get_or, take, drop}
-use Rattle.laws.specs.Choice.{if◌then◌else◌}
+use Rattle.std.specs.Prelude.{if◌then◌else◌}
 use Rattle.opcodes.specs.Core.{OP_0, OP_PUSHDATA1, OP_PUSHDATA2, OP_PUSHDATA4}
 
 -- what GetScriptOp gives: false, or true with opcodeRet, *pvchRet and the new pc

@@ -1,6 +1,6 @@
 -- 'Kind, first that fits'. Assumes nothing.
 use Rattle.std.specs.Prelude.{◌≡◌, Bool, true, not, ◌&&◌, List, [], ◌∷◌, ◌++◌, ℕ}
-use Rattle.laws.specs.Choice.{if◌then◌else◌}
+use Rattle.std.specs.Prelude.{if◌then◌else◌}
 use Rattle.fixed.specs.Fixed.{
   is_pay_to_pubkey_hash,
   is_pay_to_script_hash,

@@ -1,7 +1,7 @@
 -- What the entries say of a script. Assumes nothing.
 use Rattle.std.specs.Prelude.{List, ℕ, ◌-◌, length}
 use Rattle.std.proofs.Math.Option.{Option, none, some}
-use Rattle.laws.specs.Choice.{if◌then◌else◌}
+use Rattle.std.specs.Prelude.{if◌then◌else◌}
 use Rattle.laws.specs.Said.{Said, answers, refuses}
 use Rattle.laws.specs.Buffer.{writes}
 use Rattle.refusal.specs.Refusal.{within_limit}

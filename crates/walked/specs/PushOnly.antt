@@ -1,6 +1,6 @@
 -- CScript::IsPushOnly of Core's script/script.cpp. No contract cites it: `push_only_core` puts document 01's words beside it. Assumes nothing.
 use Rattle.std.specs.Prelude.{Bool, true, false, List, ℕ, zero, suc, ltb, length}
-use Rattle.laws.specs.Choice.{if◌then◌else◌}
+use Rattle.std.specs.Prelude.{if◌then◌else◌}
 use Rattle.opcodes.specs.Core.{OP_16}
 use Rattle.script.specs.Script.{ScriptOp, fails, reads, get_script_op}
 

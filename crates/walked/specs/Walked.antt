@@ -1,7 +1,7 @@
 -- Templates that are read off the plain walk. Assumes nothing.
 use Rattle.std.specs.Prelude.{Bool, true, false, ◌&&◌, List, [], ◌∷◌, ℕ, suc, leb, eqb}
 use Rattle.std.proofs.Math.Option.{Option, none, some}
-use Rattle.laws.specs.Choice.{if◌then◌else◌}
+use Rattle.std.specs.Prelude.{if◌then◌else◌}
 use Rattle.laws.specs.Said.{Said, answers, refuses}
 use Rattle.opcodes.specs.Core.{OP_16, OP_CHECKMULTISIG}
 use Rattle.opcodes.specs.Opcode.{pushnum_of}

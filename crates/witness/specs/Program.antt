@@ -1,6 +1,6 @@
 -- A witness program as a script: BIP 141, 'Witness program', and document 01, 'Witness program'. Assumes nothing.
 use Rattle.std.specs.Prelude.{◌≡◌, Bool, true, not, ◌&&◌, ◌||◌, List, [], ◌∷◌, ℕ, ◌+◌, ◌≤◌, ltb, eqb, length, drop}
-use Rattle.laws.specs.Choice.{if◌then◌else◌}
+use Rattle.std.specs.Prelude.{if◌then◌else◌}
 use Rattle.laws.specs.Said.{Said, refuses}
 use Rattle.laws.specs.Buffer.{writes}
 use Rattle.fixed.specs.Fixed.{version_of, is_witness_program}
