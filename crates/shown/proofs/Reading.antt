@@ -6,7 +6,7 @@ use Prim.Native.Nat.{ℕ, ◌≤◌}
 use native.Mathlib.Omega.{arith}
 use lib.IntN.{ℤ, pos, negsuc}
 use lib.Signed.{lt_z}
-use Rattle.libc.specs.Io.{Moved}
+use Rattle.shown.specs.Reads.{Moved}
 use Rattle.shown.specs.Reads.{brought, Reached, unread, another, Left, Whole}
 
 pub within : {room done : ℕ} {last : ℤ} → Reached room done last → done ≤ room

@@ -1,6 +1,11 @@
 -- Reads one after the other into a buffer. No contract says which bytes a read brings; how many, its answer says. Assumes nothing.
 use Rattle.std.specs.Prelude.{◌≡◌, ◌⊎◌, ℕ, ◌+◌, ◌≤◌, ◌<◌, ℤ, pos, negsuc}
 
+-- what a read that is handed so many bytes of room may answer: -1 where it failed, or how many bytes it brought, at most that many
+abbrev pub Moved : ℕ → ℤ → Type 0
+Moved n (pos k) = k ≤ n
+Moved n (negsuc k) = k ≡ 0
+
 -- how many bytes a read brought, by its answer: none at the input's end and where it failed
 abbrev pub brought : ℤ → ℕ
 brought (pos k) = k

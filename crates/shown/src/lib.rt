@@ -1,13 +1,13 @@
-// One raw script from a file descriptor to its screen on standard output.
+// One raw script from a reader to its screen on standard output.
 #![tactic(auto)]
+
 ghost use Rattle.std.specs.Prelude.{◌≡◌, ◌++◌, ◌-◌, ◌≤◌, ◌<◌, length, take, drop};
 ghost use Rattle.screen.specs.Screen.{most_shown, screen_of};
-ghost use Rattle.libc.specs.Io.{Moved};
-ghost use Rattle.shown.specs.Reads.{brought, Reached, Left, Whole};
+ghost use Rattle.shown.specs.Reads.{brought, Moved, Reached, Left, Whole};
 
 use inspect::inspect;
-use libc::{STDERR_FILENO, STDOUT_FILENO};
 use refusal::Counted;
+use std::io::Read;
 
 // How many bytes are read at most: one more than is inspected. What follows them changes no screen.
 const MAX_READ: usize = 2801;
@@ -20,12 +20,15 @@ pub struct Reads {
 }
 
 // One read, behind so many bytes of the buffer, which stay as they are.
-fn read_on(fd: i32, buf: &mut [u8], done: usize) -> isize
+fn read_on<R: Read>(from: &mut R, buf: &mut [u8], done: usize) -> isize
     requires { done ≤ length buf.old }
     ensures answer { Moved (length buf.new - done) result }
     ensures kept { take done buf.new ≡ take done buf.old }
 {
-    libc::read(fd, &mut buf[done..])
+    match from.read(&mut buf[done..]) {
+        Ok(n) => n as isize,
+        Err(_) => -1,
+    }
 }
 
 // How many bytes a read brought, by its answer.
@@ -36,14 +39,14 @@ fn count(answer: isize) -> usize
 }
 
 // Reads to the input's end in as many reads as it takes, or until the buffer is full, which is over the inspector's limit.
-fn read_in(fd: i32, buf: &mut [u8]) -> Reads
+fn read_in<R: Read>(from: &mut R, buf: &mut [u8]) -> Reads
     requires { most_shown < length buf.old }
     ensures { Reached (length buf.new) result.done result.last × Left (length buf.new) result.done result.last }
 {
     let mut done: usize = 0;
     let mut last: isize = 1;
     while done < buf.len() {
-        last = read_on(fd, buf, done);
+        last = read_on(from, buf, done);
         let more = count(last);
         if more == 0 {
             return Reads { done, last };
@@ -67,36 +70,35 @@ fn screen(script: &[u8], reads: Reads, out: &mut [u8]) -> usize
     }
 }
 
+// A line on standard error; where that fails too, there is nowhere left to say so.
+fn complain(rt: &impl Eprint, line: &str) {
+    let _ = rt.eprintln(line);
+}
+
 // Writes all of the screen; a line on standard error where that fails.
-fn print(shown: &[u8]) {
-    if io::write_all(STDOUT_FILENO, shown) {
+fn print(rt: &(impl Print + Eprint), shown: &[u8]) {
+    if rt.write_all(shown).is_ok() {
         return;
     }
-    io::write_all(
-        STDERR_FILENO,
-        b"inspector: standard output could not be written\n",
-    );
+    complain(rt, "inspector: standard output could not be written");
 }
 
 // The screen of what the reads brought, which have come to the input's end or filled the buffer, and of which none failed.
-fn show(script: &[u8], reads: Reads)
+fn show(rt: &(impl Print + Eprint), script: &[u8], reads: Reads)
     requires { Reached (length script.now) reads.done reads.last × Whole (length script.now) reads.done reads.last }
 {
-    let mut out = io::large_buffer();
+    let mut out = [0u8; 65536];
     let n = screen(script, reads, &mut out);
-    print(&out[..n]);
+    print(rt, &out[..n]);
 }
 
 // The screen of the script that can be read there; where a read fails, nothing but a line on standard error.
-pub fn show_from(fd: i32) {
+pub fn show_from<R: Read>(rt: &(impl Print + Eprint), from: &mut R) {
     let mut script = [0u8; MAX_READ];
-    let reads = read_in(fd, &mut script);
+    let reads = read_in(from, &mut script);
     if reads.last < 0 {
-        io::write_all(
-            STDERR_FILENO,
-            b"inspector: standard input could not be read\n",
-        );
+        complain(rt, "inspector: standard input could not be read");
         return;
     }
-    show(&script, reads);
+    show(rt, &script, reads);
 }
