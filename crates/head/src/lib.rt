@@ -10,7 +10,7 @@ ghost use Rattle.head.specs.Shown.{Shows};
 use templates::Template;
 
 // A number's decimal digits, at the end of an array.
-#[derive(Drop)]
+#[derive(Clone, Copy)]
 struct Digits {
     bytes: [u8; 20],
     start: usize,
@@ -34,7 +34,7 @@ fn digits_of(n: u64) -> Digits
 }
 
 // The screen up to the text: the first len bytes, of which there are 121 at most.
-#[derive(Drop)]
+#[derive(Clone, Copy)]
 pub struct Head {
     pub bytes: [u8; 160],
     pub len: usize,

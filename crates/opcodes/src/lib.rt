@@ -1,5 +1,6 @@
 // Opcode bytes: what sort of instruction each starts, and what goes with it.
 #![tactic(auto)]
+
 ghost use Rattle.std.specs.Prelude.{◌≡◌};
 ghost use Rattle.opcodes.specs.Opcode.{sort_of, length_bytes, said_class, said_form, pushnum_of, verify_of, said_code};
 

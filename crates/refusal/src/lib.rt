@@ -1,5 +1,6 @@
 // The refusals of document 01 as document 02 amends them, and the two answers that most entries give.
 #![tactic(auto)]
+
 ghost use Rattle.std.specs.Prelude.{◌≡◌, length};
 ghost use Rattle.refusal.specs.Refusal.{number_of, values_of};
 ghost use Rattle.refusal.specs.Answer.{said_value};

@@ -3,21 +3,18 @@
 use mathlib.Core.Path.{◌≡◌}
 use mathlib.Core.Bool.{Bool, false}
 use mathlib.Core.List.{List}
-use Prim.Native.Nat.{ℕ, ◌*◌, ◌-◌, ◌≤◌}
+use Prim.Native.Nat.{ℕ}
 use native.Mathlib.Omega.{arith}
-use borrow.Author.Rules.{rules}
 use borrow.Author.Tests.{lt-ltb, le-ltb}
-use lib.ListN.{length}
 use Rattle.laws.specs.Said.{answers}
 use Rattle.walk.proofs.Turn.{moves_at, says_at, good_at}
 use Rattle.counts.specs.Count.{count_says, get_sig_op_count}
-use Rattle.counts.proofs.Turns.{Counting, begins, stops, after_opcode, after_push, end_fails, refused_fails}
+use Rattle.counts.proofs.Turns.{begins, stops, after_opcode, after_push, end_fails, refused_fails}
 use Rattle.counts.proofs.count.Goals as goal
 use Rattle.counts.proofs.count.Goals.{After-next-stepped}
 
 -- after a call
 module _ (d : After-next-stepped) where
-
   abbrev acc : Bool
   acc = d.args.accurate
 

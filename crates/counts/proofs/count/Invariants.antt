@@ -1,17 +1,8 @@
 -- `counts::count` meets its contract. The loop's invariant: Core's loop, from the cursor on with what is counted and the opcode read last, gives
 -- Core's count; at most 20 are counted for each byte passed. The measure is what is left of the script. Assumes nothing.
-use mathlib.Core.Path.{◌≡◌}
-use mathlib.Core.Bool.{Bool, false}
-use mathlib.Core.List.{List}
-use Prim.Native.Nat.{ℕ, ◌*◌, ◌-◌, ◌≤◌}
-use native.Mathlib.Omega.{arith}
-use borrow.Author.Rules.{rules}
-use borrow.Author.Tests.{lt-ltb, le-ltb}
+use Prim.Native.Nat.{◌*◌, ◌-◌, ◌≤◌}
 use lib.ListN.{length}
-use Rattle.laws.specs.Said.{answers}
-use Rattle.walk.proofs.Turn.{moves_at, says_at, good_at}
-use Rattle.counts.specs.Count.{count_says, get_sig_op_count}
-use Rattle.counts.proofs.Turns.{Counting, begins, stops, after_opcode, after_push, end_fails, refused_fails}
+use Rattle.counts.proofs.Turns.{Counting}
 use Rattle.counts.proofs.count.Given as goal
 
 abbrev pub invariant-loop-code : goal.invariant-loop-code

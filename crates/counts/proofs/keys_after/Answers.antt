@@ -1,7 +1,6 @@
 -- `counts::keys_after` meets its contract: `decode_pushnum` gives a number for OP_1 to OP_16, and nothing else. Assumes nothing.
 use mathlib.Core.Path.{sym, ap, ◌∙◌}
 use native.Mathlib.Omega.{arith}
-use borrow.Author.Rules.{rules}
 use Rattle.opcodes.specs.Opcode.{said_code}
 use Rattle.counts.proofs.Weight.{keys_of}
 use Rattle.counts.proofs.keys_after.Goals as goal

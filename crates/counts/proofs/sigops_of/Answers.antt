@@ -1,7 +1,6 @@
 -- `counts::sigops_of` meets its contract: the range of each arm picks the case of `sig_ops`. Assumes nothing.
 use mathlib.Core.Path.{sym, ◌∙◌}
 use native.Mathlib.Omega.{arith}
-use borrow.Author.Rules.{rules}
 use Rattle.counts.specs.Count.{multisig_ops}
 use Rattle.counts.proofs.Weight.{counts_one, counts_keys, counts_none_below, counts_none_above}
 use Rattle.counts.proofs.sigops_of.Goals as goal

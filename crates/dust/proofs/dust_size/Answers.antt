@@ -1,7 +1,6 @@
 -- `dust::dust_size` meets its contract: OP_RETURN first, then the two ways to spend. Assumes nothing.
 use mathlib.Core.Path.{refl}
 use native.Mathlib.Omega.{arith}
-use borrow.Author.Rules.{rules}
 use Rattle.dust.specs.Dust.{dust_size}
 use Rattle.dust.proofs.dust_size.Goals as goal
 

@@ -1,5 +1,4 @@
 -- `dust::minimal_non_dust` meets its contract: the size is small enough that the product fits. Assumes nothing.
-use borrow.Author.Rules.{rules}
 use borrow.Author.Tests.{lt-ltb, le-ltb}
 use Rattle.dust.specs.Dust.{dust_says}
 use Rattle.dust.proofs.minimal_non_dust.Goals as goal

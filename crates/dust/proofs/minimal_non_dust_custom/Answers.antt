@@ -1,6 +1,5 @@
 -- `dust::minimal_non_dust_custom` meets its contract: the script's length, then four times the rate, then `fee`. Assumes nothing.
 use native.Mathlib.Omega.{arith}
-use borrow.Author.Rules.{rules}
 use borrow.Author.Tests.{lt-ltb, le-ltb}
 use Prim.Native.Nat.{◌*◌}
 use Rattle.dust.specs.Dust.{most_amount, custom_says}

@@ -1,7 +1,6 @@
 -- `fixed::keyed` meets its contract: the length decides, and then the two bytes are compared. Assumes nothing.
 use Prim.Native.Nat.{◌+◌}
 use native.Mathlib.Omega.{arith}
-use borrow.Author.Rules.{rules}
 use borrow.Author.Tests.{eq-eqb, ne_eqb}
 use lib.ListN.{length}
 use Rattle.fixed.specs.Fixed.{is_key_of}

@@ -1,5 +1,4 @@
 -- `fixed::op_return` meets its contract: there is a first byte, or there is none. Assumes nothing.
-use borrow.Author.Rules.{rules}
 use borrow.Author.Tests.{le-leb, lt-leb}
 use Rattle.fixed.specs.Fixed.{is_op_return}
 use Rattle.fixed.proofs.op_return.Goals as goal

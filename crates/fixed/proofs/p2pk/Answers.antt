@@ -1,5 +1,4 @@
 -- `fixed::p2pk` meets its contract: it asks for the two sizes of a key. Assumes nothing.
-use borrow.Author.Rules.{rules}
 use Rattle.fixed.specs.Fixed.{is_pay_to_pubkey}
 use Rattle.fixed.proofs.p2pk.Goals as goal
 

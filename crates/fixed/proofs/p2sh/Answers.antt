@@ -1,5 +1,4 @@
 -- `fixed::p2sh` meets its contract: the length decides, and then the bytes are compared as the definition has them. Assumes nothing.
-use borrow.Author.Rules.{rules}
 use borrow.Author.Tests.{eq-eqb, ne_eqb}
 use Rattle.fixed.specs.Fixed.{is_pay_to_script_hash}
 use Rattle.fixed.proofs.p2sh.Goals as goal

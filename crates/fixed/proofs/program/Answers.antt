@@ -1,7 +1,6 @@
 -- `fixed::program` meets its contract: the length is that of such a program, and then the version decides. Assumes nothing.
 use mathlib.Core.Path.{sym, ap, ◌∙◌}
 use native.Mathlib.Omega.{arith}
-use borrow.Author.Rules.{rules}
 use Rattle.opcodes.specs.Opcode.{said_code}
 use Rattle.fixed.proofs.Versions.{same_length, no_program_of, other_length}
 use Rattle.fixed.proofs.program.Goals as goal

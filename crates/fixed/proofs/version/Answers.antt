@@ -3,7 +3,6 @@ use mathlib.Core.Path.{sym, ◌∙◌}
 use mathlib.Core.Bool.{and-false}
 use Prim.Native.Nat.{◌+◌}
 use native.Mathlib.Omega.{arith}
-use borrow.Author.Rules.{rules}
 use borrow.Author.Tests.{le-leb, lt-leb, eq-eqb, ne_eqb}
 use lib.ListN.{length, get_or}
 use Rattle.fixed.specs.Fixed.{witness_version, is_witness_program}

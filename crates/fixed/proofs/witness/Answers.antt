@@ -1,6 +1,5 @@
 -- `fixed::witness` meets its contract: exactly a witness program has a version. Assumes nothing.
 use mathlib.Core.Path.{sym, ap, ◌∙◌}
-use borrow.Author.Rules.{rules}
 use Rattle.opcodes.specs.Opcode.{said_code}
 use Rattle.fixed.proofs.Versions.{is_program, no_program}
 use Rattle.fixed.proofs.witness.Goals as goal

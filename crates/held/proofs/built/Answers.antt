@@ -2,10 +2,7 @@
 use mathlib.Core.Path.{refl, ap, ◌∙◌}
 use mathlib.Core.List.{[]}
 use Prim.Native.Nat.{◌+◌}
-use native.Mathlib.Omega.{arith}
-use borrow.Author.Rules.{rules}
-use lib.Seq.{length-sets}
-use lib.ListN.{length, length-set}
+use lib.ListN.{length}
 use Rattle.layout.specs.Answer.{said_answer}
 use Rattle.hand.specs.Handed.{values_said}
 use Rattle.hand.proofs.Handing.{builds_short, builds_lacking, builds_done, builds_refused}

@@ -1,20 +1,10 @@
 -- `places::count` meets its contract. The loop's invariant: what is counted, with what is still to come, is all that the walk gives, and the
 -- walk from here on ends as the whole one does. The measure is what is left of the script. Assumes nothing.
-use mathlib.Core.Path.{◌≡◌, refl, sym, ap, ◌∙◌}
-use mathlib.Core.Bool.{Bool}
-use mathlib.Core.List.{List}
-use Prim.Native.Nat.{ℕ, ◌+◌, ◌-◌, ◌≤◌, ◌<◌}
-use native.Mathlib.Omega.{arith}
-use borrow.Author.Rules.{rules}
-use lib.ListN.{length, get_or}
-use Rattle.laws.specs.Said.{Said, answers, unless}
-use Rattle.refusal.specs.Answer.{said_count}
+use mathlib.Core.Path.{◌≡◌}
+use Prim.Native.Nat.{◌+◌, ◌-◌, ◌≤◌}
+use lib.ListN.{length}
 use Rattle.walk.specs.Answer.{is_minimal}
-use Rattle.script.specs.Walk.{Walked, walk_says}
 use Rattle.script.specs.Run.{walk_from, items, ending}
-use Rattle.places.specs.Places.{place_count_says}
-use Rattle.places.proofs.Places.{counted}
-use Rattle.script.proofs.Sized.{stands_fits, turn_sized, stops, size_told, size_refused}
 use Rattle.places.proofs.count.Given as goal
 
 abbrev pub invariant-loop-sized : goal.invariant-loop-sized

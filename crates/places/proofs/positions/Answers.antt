@@ -1,6 +1,5 @@
 -- `places::positions` meets its contract: the count says whether the walk is refused, and whether the table is short. Assumes nothing.
 use mathlib.Core.Path.{sym, ap, ◌∙◌}
-use borrow.Author.Rules.{rules}
 use Rattle.refusal.specs.Answer.{said_count}
 use Rattle.places.proofs.Places.{places_refused, places_fit, places_short, places_written}
 use Rattle.places.proofs.positions.Goals as goal

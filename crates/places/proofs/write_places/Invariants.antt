@@ -1,21 +1,14 @@
 -- `places::write_places` meets its contract. The loop's invariant: the table as it is, with the places from here on stored from i on, is the
 -- table at the end, and there is room for them. The measure is what is left of the script. Assumes nothing.
-use mathlib.Core.Path.{◌≡◌, refl, sym, ap, ◌∙◌}
+use mathlib.Core.Path.{◌≡◌}
 use mathlib.Core.Bool.{Bool}
-use mathlib.Core.List.{List, ◌∷◌, map}
-use Prim.Native.Nat.{ℕ, suc, ◌+◌, ◌-◌, ◌≤◌, ◌<◌}
-use native.Mathlib.Numerals.{add-one}
-use native.Mathlib.Omega.{arith}
-use borrow.Author.Rules.{rules}
-use lib.ListN.{length, set, get_or, length-set}
+use mathlib.Core.List.{List, map}
+use Prim.Native.Nat.{ℕ, ◌+◌, ◌-◌, ◌≤◌}
+use lib.ListN.{length}
 use lib.Seq.{sets}
-use Rattle.opcodes.specs.Opcode.{sort_of}
 use Rattle.walk.specs.Answer.{is_minimal}
-use Rattle.script.specs.Run.{Run, walk_from, items}
+use Rattle.script.specs.Run.{walk_from, items}
 use Rattle.script.specs.Walk.{place_of}
-use Rattle.places.specs.Places.{places_of}
-use Rattle.script.proofs.Sized.{within_limit_lem, stands_fits, turn_sized, stops}
-use Rattle.places.proofs.Places.{place_is}
 use Rattle.places.proofs.write_places.Given as goal
 
 -- the places from p on

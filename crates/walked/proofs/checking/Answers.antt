@@ -1,6 +1,5 @@
 -- `walked::checking` meets its contract: the opcode at the cursor decides, and then whether the script ends. Assumes nothing.
 use mathlib.Core.Path.{sym, ap, ◌∙◌}
-use borrow.Author.Rules.{rules}
 use borrow.Author.Tests.{eq-eqb, ne_eqb}
 use Rattle.walk.proofs.Turn.{turn_at}
 use Rattle.walked.specs.Walked.{checks}

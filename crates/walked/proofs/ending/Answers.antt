@@ -1,6 +1,5 @@
 -- `walked::ending` meets its contract: the walk from the cursor on is what the call found and no more. Assumes nothing.
 use mathlib.Core.Path.{sym, ap}
-use borrow.Author.Rules.{rules}
 use Rattle.walk.proofs.Turn.{turn_at}
 use Rattle.walked.specs.Walked.{is_end}
 use Rattle.walked.proofs.ending.Goals as goal

@@ -1,12 +1,7 @@
 -- `walked::keys` meets its contract. The loop's invariant: the keys that were counted, with those to come, are all, and what follows
 -- them is the same. The measure is what is left of the script. Assumes nothing.
-use mathlib.Core.Path.{◌≡◌, refl, sym, ap, ◌∙◌}
-use mathlib.Core.Bool.{false}
-use Prim.Native.Nat.{◌+◌, ◌-◌, ◌≤◌}
+use mathlib.Core.Path.{sym, ap, ◌∙◌}
 use native.Mathlib.Omega.{arith}
-use borrow.Author.Rules.{rules}
-use lib.ListN.{length}
-use Rattle.script.specs.Run.{walk_from}
 use Rattle.walk.proofs.Turn.{turn_at, moves_at}
 use Rattle.walked.specs.Walked.{pushes, after_pushes}
 use Rattle.walked.proofs.Runs.{no_count, too_many, counted}

@@ -1,17 +1,11 @@
 -- `walked::last_push` meets its contract. The loop's invariant: the walk from here on, with the body that is held, gives what the whole
 -- walk gives. The measure is what is left of the script. Assumes nothing.
-use mathlib.Core.Path.{◌≡◌, refl, sym, ap, ◌∙◌}
-use mathlib.Core.Bool.{false}
+use mathlib.Core.Path.{refl, sym, ap, ◌∙◌}
 use mathlib.Core.Option.{Option, none, some}
-use Prim.Native.Nat.{◌-◌}
 use native.Mathlib.Omega.{arith}
-use borrow.Author.Rules.{rules}
-use lib.ListN.{length}
 use Rattle.laws.specs.Said.{answers}
-use Rattle.script.specs.Run.{walk_from}
 use Rattle.walk.proofs.Turn.{turn_at, moves_at}
 use Rattle.walked.specs.Walked.{Stretch, stretch, redeem_run, redeem_script}
-use Rattle.walked.specs.Answer.{said_place}
 use Rattle.walked.specs.declared.Place.{Place}
 use Rattle.walked.specs.declared.Place.TheVariants.{At, Nothing, Refused}
 use Rattle.walked.proofs.Runs.{opcode_redeems}

@@ -1,6 +1,5 @@
 -- `walked::multisig` meets its contract. Assumes nothing.
 use mathlib.Core.Path.{sym, ◌∙◌}
-use borrow.Author.Rules.{rules}
 use Rattle.walked.proofs.Numbered.{not_multisig}
 use Rattle.walked.proofs.multisig.Goals as goal
 

@@ -1,6 +1,5 @@
 -- `walked::walks_multisig` meets its contract: a number opcode stands first, and the keys follow it. Assumes nothing.
 use mathlib.Core.Path.{sym, ap, ◌∙◌}
-use borrow.Author.Rules.{rules}
 use Rattle.opcodes.specs.Opcode.{said_code}
 use Rattle.walk.proofs.Turn.{turn_at}
 use Rattle.walked.specs.Walked.{opcode_then, number_then, keys_then, is_multisig}

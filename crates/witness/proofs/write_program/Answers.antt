@@ -3,10 +3,9 @@ use mathlib.Core.Path.{◌≡◌, ap, ◌∙◌}
 use mathlib.Core.List.{List, ◌∷◌, ◌++◌}
 use Prim.Native.Nat.{ℕ, ◌+◌, ◌-◌, ◌≤◌}
 use native.Mathlib.Omega.{arith}
-use borrow.Author.Rules.{rules}
 use borrow.Rule.Slice.PartMut.{put_mid}
-use lib.ListN.{length, drop, set, length-set, length-drop}
-use lib.Seq.{sets, length-sets}
+use lib.ListN.{length, drop, set, length-set}
+use lib.Seq.{sets}
 use Rattle.laws.proofs.Stored.{stored_front}
 use Rattle.copying.proofs.Whole.{part_copied}
 use Rattle.witness.specs.Program.{witness_bytes}

@@ -1,11 +1,9 @@
 -- `numbers::read::cast_to_bool` meets its contract. The loop's invariant: the bytes before i are 0, so those from i on decide. The measure is what
 -- is left of the length. Assumes nothing.
-use mathlib.Core.Path.{◌≡◌, refl, sym, ◌∙◌}
+use mathlib.Core.Path.{◌≡◌}
 use Prim.Native.Nat.{◌≤◌, ◌-◌}
-use native.Mathlib.Omega.{arith}
 use lib.ListN.{length, drop}
 use Rattle.numbers.specs.ScriptNum.{cast_to_bool}
-use Rattle.numbers.proofs.First.{none_left, zero_here, set_before_last, set_last}
 use Rattle.numbers.proofs.read.cast_to_bool.Given as goal
 
 abbrev pub invariant-loop-i : goal.invariant-loop-i

@@ -1,7 +1,6 @@
 -- `numbers::read::non_minimal` meets its contract: each test of the code is one of Core's, in Core's order. Assumes nothing.
 use Prim.Native.Nat.{◌%◌}
 use native.Mathlib.Omega.{arith}
-use borrow.Author.Rules.{rules}
 use borrow.Author.Tests.{lt-ltb, le-ltb, le-leb, lt-leb, eq-eqb, ne_eqb}
 use lib.ListN.{length}
 use Rattle.numbers.specs.ScriptNum.{non_minimal, back}

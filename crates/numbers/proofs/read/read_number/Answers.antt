@@ -1,6 +1,6 @@
 -- `numbers::read::read_number` meets its contract, for every k and for both readers. Assumes nothing.
 use mathlib.Core.Path.{sym, ap, ◌∙◌}
-use borrow.Author.Rules.{rules, sfits_of}
+use borrow.Author.Rules.{sfits_of}
 use borrow.Author.Tests.{lt-ltb, le-ltb}
 use mir.Syntax.{w64}
 use mir.Facts.{to_z-of_z}

@@ -1,6 +1,5 @@
 -- `numbers::read::read_scriptbool` meets its contract. Assumes nothing.
 use mathlib.Core.Path.{ap}
-use borrow.Author.Rules.{rules}
 use borrow.Author.Tests.{lt-ltb, le-ltb}
 use Rattle.laws.specs.Said.{answers}
 use Rattle.numbers.specs.Answer.{bool_says}

@@ -7,7 +7,7 @@ use lib.ListN.{length, drop}
 use mir.Syntax.{w64}
 use mir.Facts.{to_z-of_z}
 use borrow.Author.Rules.{sfits_of}
-use Rattle.numbers.proofs.Reading.{magnitude_of, set_vch_is, set_vch_none, magnitude_last, magnitude_step, magnitude_fits}
+use Rattle.numbers.proofs.Reading.{magnitude_of, set_vch_is, set_vch_none, magnitude_fits}
 use Rattle.numbers.proofs.read.scriptint_parse.Goals as goal
 use Rattle.numbers.proofs.read.scriptint_parse.Goals.{At-loop-i}
 

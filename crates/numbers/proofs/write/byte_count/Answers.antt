@@ -1,8 +1,6 @@
 -- `numbers::write::byte_count` meets its contract: the leading zeros give the magnitude's bits, and these the bytes. Assumes nothing.
 use mathlib.Core.Path.{sym, ap, ◌∙◌}
 use native.Mathlib.Omega.{arith}
-use borrow.Author.Rules.{rules}
-use lib.Count.{leading_le}
 use lib.ListN.{length}
 use Rattle.numbers.proofs.Written.{serialize_count, serialize_empty}
 use Rattle.numbers.proofs.write.byte_count.Goals as goal

@@ -1,15 +1,13 @@
 -- `numbers::write::put` meets its contract. The loop's invariant: the bytes before i are written, and `rest` stands for those from i on.
 -- The measure is `rest`. Assumes nothing.
-use mathlib.Core.Path.{◌≡◌, refl, sym, ◌∙◌}
+use mathlib.Core.Path.{refl, sym, ◌∙◌}
 use Prim.Native.Nat.{◌+◌}
 use native.Mathlib.Omega.{arith}
-use borrow.Author.Rules.{rules}
-use mathlib.Core.Logic.{⊎_elim}
-use lib.ListN.{length, drop, length-set}
-use Rattle.laws.proofs.Filled.{filled, fill_put, fill_done}
+use lib.ListN.{length-set}
+use Rattle.laws.proofs.Filled.{fill_put, fill_done}
 use Rattle.numbers.specs.ScriptNum.{low_bytes, close_sign}
-use Rattle.numbers.proofs.Coded.{bit, bit_is, closed_coded}
-use Rattle.numbers.proofs.Left.{Left, left, turn, end}
+use Rattle.numbers.proofs.Coded.{closed_coded}
+use Rattle.numbers.proofs.Left.{left, turn, end}
 use Rattle.numbers.proofs.write.put.Goals as goal
 
 pub loop-rest-init : goal.loop-rest-init

@@ -1,6 +1,5 @@
 -- `numbers::write::scriptint_len` meets its contract. Assumes nothing.
 use mathlib.Core.Path.{sym, ap, ◌∙◌}
-use borrow.Author.Rules.{rules}
 use lib.IntN.{nat_abs}
 use mir.Facts.{to_z-of_z}
 use Rattle.laws.specs.Said.{answers}

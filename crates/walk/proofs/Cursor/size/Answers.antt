@@ -1,7 +1,6 @@
 -- `walk::Cursor::size` meets its contract: what was found says the size, and a push stands whole in the script. Assumes nothing.
 use mathlib.Core.Path.{◌≡◌}
 use native.Mathlib.Omega.{arith}
-use borrow.Author.Rules.{rules}
 use Rattle.laws.specs.Said.{answers, unless}
 use Rattle.script.specs.Walk.{size_said, size_says}
 use Rattle.script.proofs.Sized.{says_size}

@@ -1,7 +1,6 @@
 -- `walk::part::body_span` meets its contract: what was found says where the body lies, and a push stands whole in the script. Assumes nothing.
 use mathlib.Core.Path.{refl}
 use native.Mathlib.Omega.{arith}
-use borrow.Author.Rules.{rules}
 use Rattle.walk.proofs.Turn.{says_at, good_at}
 use Rattle.walk.proofs.part.body_span.Goals as goal
 

@@ -1,6 +1,5 @@
 -- `walk::push::is_number` meets its contract: the tests that led to each answer pick the case of `is_number`. Assumes nothing.
 use native.Mathlib.Omega.{arith}
-use borrow.Author.Rules.{rules}
 use lib.ListN.{get_or}
 use borrow.Author.Tests.{lt-ltb, le-ltb, eq-eqb, ne_eqb}
 use Rattle.script.specs.Steps.{is_number}

@@ -1,5 +1,4 @@
 -- `walk::push::is_too_short` meets its contract: mode and form pick the case of `too_short`. Assumes nothing.
-use borrow.Author.Rules.{rules}
 use borrow.Author.Tests.{eq-eqb, ne_eqb}
 use Rattle.script.specs.Steps.{too_short}
 use Rattle.walk.proofs.push.is_too_short.Goals as goal

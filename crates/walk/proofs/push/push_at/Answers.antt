@@ -3,7 +3,6 @@
 use mathlib.Core.Path.{sym, ◌∙◌}
 use Prim.Native.Nat.{ℕ, ◌<◌}
 use native.Mathlib.Omega.{arith}
-use borrow.Author.Rules.{rules}
 use lib.ListN.{get_or}
 use Rattle.opcodes.specs.Opcode.{said_form}
 use Rattle.script.proofs.Step.{few, says_length_cut, says_short, says_body_cut, says_push}

@@ -1,11 +1,7 @@
 -- `walk::push::read_le` meets its contract. The loop's invariant: n is what the bytes from i on hold. The measure is i. Assumes nothing.
 use mathlib.Core.Path.{◌≡◌}
-use Prim.Native.Nat.{ℕ, ◌+◌, ◌-◌, ◌*◌, ◌^◌, ◌≤◌, ◌<◌}
-use native.Mathlib.Omega.{arith}
-use borrow.Author.Rules.{rules}
-use lib.ListN.{get_or}
+use Prim.Native.Nat.{◌+◌, ◌-◌, ◌^◌, ◌≤◌, ◌<◌}
 use Rattle.script.specs.Script.{read_le}
-use Rattle.script.proofs.Little.{le_more, le_small}
 use Rattle.walk.proofs.push.read_le.Given as goal
 
 abbrev pub invariant-loop-i : goal.invariant-loop-i

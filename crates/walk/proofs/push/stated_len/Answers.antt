@@ -1,6 +1,4 @@
 -- `walk::push::stated_len` meets its contract: the test on k picks the case of `stated`. Assumes nothing.
-use native.Mathlib.Omega.{arith}
-use borrow.Author.Rules.{rules}
 use borrow.Author.Tests.{eq-eqb, ne_eqb}
 use Rattle.script.specs.Steps.{stated}
 use Rattle.walk.proofs.push.stated_len.Goals as goal
