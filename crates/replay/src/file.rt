@@ -10,7 +10,7 @@ pub(crate) struct Read {
 }
 
 // A record: its kind, its two numbers, where its bytes lie, and where the next record starts. `whole` is false where a part of it is missing.
-#[derive(Drop)]
+#[derive(Clone, Copy)]
 pub(crate) struct Head {
     pub(crate) kind: u8,
     pub(crate) arg: u64,

@@ -1,6 +1,7 @@
 // The entries' names, in the order of their numbers in the file, which start with 1, and then the differences (a) to (e) of document 01.
 
 use crate::file;
+use std::io;
 
 // Columns of a name.
 const WIDTH: usize = 26;
@@ -60,11 +61,12 @@ difference (d)            \
 difference (e)            ";
 
 // Prints the name with number k, and nothing where there is none.
-pub(crate) fn name(k: usize) {
+pub(crate) fn name(rt: &impl Print, k: usize) -> io::Result<()> {
     let names = NAMES;
     if 0 < k {
         if k < 54 {
-            show::text(file::part(&names, (k - 1) * WIDTH, WIDTH));
+            show::text(rt, file::part(&names, (k - 1) * WIDTH, WIDTH))?;
         }
     }
+    Ok(())
 }

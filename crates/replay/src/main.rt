@@ -1,6 +1,9 @@
 // Reads a recorded sample of the Rust crate's answers from standard input, asks Brinebutton the same, and prints for each entry how many answers
 // agree. Only a file that is whole and agrees with every answer ends in the line `.. records agree`. docs/REPLAY.md has the file's layout.
 #![tactic(auto)]
+
+ghost use Rattle.std.specs.Prelude.{◌≤◌, length};
+
 mod entries;
 mod expect;
 mod file;
@@ -16,7 +19,8 @@ mod report;
 
 use builder::Builder;
 use file::Head;
-use libc::STDIN_FILENO;
+use std::io;
+use std::io::Read;
 
 // Kinds of records that ask nothing.
 const MARK: u8 = 0xfd;
@@ -36,7 +40,7 @@ const WHOLE: u8 = 1;
 const DAMAGED: u8 = 2;
 
 // Where the next record starts, how long the input is, the builder of the session and its room, and what was counted.
-#[derive(Drop)]
+#[derive(Clone, Copy)]
 struct State {
     at: usize,
     len: usize,
@@ -86,18 +90,24 @@ fn begin(data: &[u8]) -> State {
 }
 
 // Counts a record that was asked, and whether its answer agrees.
-fn compared(h: Head, s: State, agree: bool, counts: &mut [u64; 54]) -> State {
+fn compared(
+    rt: &impl Print,
+    h: Head,
+    s: State,
+    agree: bool,
+    counts: &mut [u64; 54],
+) -> io::Result<State> {
     let mut next = moved(s, h.next);
     next.asked = more(s.asked);
     if agree {
         counted(h.kind, counts);
-        return next;
+        return Ok(next);
     }
     if s.differ == 0 {
-        report::first_differing(next.asked, s.at, h.kind);
+        report::first_differing(rt, next.asked, s.at, h.kind)?;
     }
     next.differ = more(s.differ);
-    next
+    Ok(next)
 }
 
 fn counted(kind: u8, counts: &mut [u64; 54]) {
@@ -109,17 +119,18 @@ fn counted(kind: u8, counts: &mut [u64; 54]) {
 
 // An entry that keeps nothing.
 fn asked(
+    rt: &impl Print,
     data: &[u8],
     h: Head,
     s: State,
     input: &[u8],
     space: &mut [u8],
     counts: &mut [u64; 54],
-) -> State {
+) -> io::Result<State> {
     let want = file::part(data, h.from, h.len);
     let bytes = file::part(input, 0, s.len);
     let end = entries::answered_in(h.kind, h.arg, h.room, bytes, space, want);
-    compared(h, s, end == want.len(), counts)
+    compared(rt, h, s, end == want.len(), counts)
 }
 
 // A session's room is that of its first record.
@@ -132,23 +143,24 @@ fn room_of(h: Head, s: State) -> usize {
 
 // A call of the builder.
 fn session(
+    rt: &impl Print,
     data: &[u8],
     h: Head,
     s: State,
     input: &[u8],
     buffer: &mut [u8],
     counts: &mut [u64; 54],
-) -> State {
+) -> io::Result<State> {
     let want = file::part(data, h.from, h.len);
     let bytes = file::part(input, 0, s.len);
     let room = room_of(h, s);
     let builder = s.builder;
     let left = on_builder::answer_part(h.kind, h.arg, bytes, builder, room, buffer, want);
-    let mut next = compared(h, s, left.want == want.len(), counts);
+    let mut next = compared(rt, h, s, left.want == want.len(), counts)?;
     let after = left.builder;
     next.builder = after;
     next.room = room;
-    next
+    Ok(next)
 }
 
 fn set_input(data: &[u8], h: Head, s: State, input: &mut [u8]) -> State {
@@ -198,86 +210,104 @@ fn ended(data: &[u8], h: Head, s: State) -> State {
 
 // One record.
 fn turn(
+    rt: &impl Print,
     data: &[u8],
     s: State,
     input: &mut [u8],
     buffer: &mut [u8],
     space: &mut [u8],
     counts: &mut [u64; 54],
-) -> State {
+) -> io::Result<State> {
     let h = file::read_head(data, s.at);
     if h.whole {
         let kind = h.kind;
         match kind {
-            1..=39 => asked(data, h, s, input, space, counts),
-            40..=47 => session(data, h, s, input, buffer, counts),
-            ENTRIES => asked(data, h, s, input, space, counts),
-            MARK => marked(h, s, counts),
-            INPUT => set_input(data, h, s, input),
-            END => ended(data, h, s),
-            _ => staged(s, DAMAGED),
+            1..=39 => asked(rt, data, h, s, input, space, counts),
+            40..=47 => session(rt, data, h, s, input, buffer, counts),
+            ENTRIES => asked(rt, data, h, s, input, space, counts),
+            MARK => Ok(marked(h, s, counts)),
+            INPUT => Ok(set_input(data, h, s, input)),
+            END => Ok(ended(data, h, s)),
+            _ => Ok(staged(s, DAMAGED)),
         }
     } else {
-        staged(s, DAMAGED)
+        Ok(staged(s, DAMAGED))
     }
 }
 
-fn print_report(s: State, counts: &[u64; 54]) {
-    report::lines(counts);
+fn print_report(rt: &impl Print, s: State, counts: &[u64; 54]) -> io::Result<()> {
+    report::lines(rt, counts)?;
     if s.stage != WHOLE {
-        report::damaged(s.at);
+        report::damaged(rt, s.at)?;
     }
     if 0 < s.differ {
-        report::differing(s.asked, s.differ);
+        report::differing(rt, s.asked, s.differ)?;
     } else if s.stage == WHOLE {
-        report::agreeing(s.asked, s.marked);
+        report::agreeing(rt, s.asked, s.marked)?;
     }
+    Ok(())
 }
 
 // Each record has at least one byte, so that there are no more turns than bytes.
 fn run(
+    rt: &impl Print,
     data: &[u8],
     input: &mut [u8],
     buffer: &mut [u8],
     space: &mut [u8],
     counts: &mut [u64; 54],
-) -> State {
+) -> io::Result<State> {
     let mut s = begin(data);
     let mut left = data.len();
     while 0 < left {
         left -= 1;
         if s.stage == READING {
-            s = turn(data, s, input, buffer, space, counts);
+            s = turn(rt, data, s, input, buffer, space, counts)?;
         } else {
-            return s;
+            return Ok(s);
         }
     }
-    s
+    Ok(s)
 }
 
-fn with_buffers(data: &[u8], input: &mut [u8; 4_194_305]) {
+fn with_buffers(rt: &impl Print, data: &[u8], input: &mut [u8; 4_194_305]) -> io::Result<()> {
     let mut buffer = [0u8; 1024];
     let mut space = [0u8; 1024];
     let mut counts = [0u64; 54];
-    let s = run(data, input, &mut buffer, &mut space, &mut counts);
-    print_report(s, &counts);
+    let s = run(rt, data, input, &mut buffer, &mut space, &mut counts)?;
+    print_report(rt, s, &counts)
 }
 
-fn with_input(data: &[u8]) {
+fn with_input(rt: &impl Print, data: &[u8]) -> io::Result<()> {
     let mut input = [0u8; 4_194_305];
-    with_buffers(data, &mut input);
+    with_buffers(rt, data, &mut input)
 }
 
-fn read(data: &mut [u8]) {
-    let n = io::read_full(STDIN_FILENO, data);
-    with_input(&data[..n]);
+// Reads to the input's end, to a read that fails, or until the buffer is full; how many bytes there are then.
+fn read_full<R: Read>(from: &mut R, buf: &mut [u8]) -> usize
+    ensures { result ≤ length buf.new }
+{
+    let mut done = 0;
+    while done < buf.len() {
+        let more = from.read(&mut buf[done..]).unwrap_or(0);
+        if more == 0 {
+            return done;
+        }
+        done += more;
+    }
+    done
 }
 
-fn read_into(data: &mut [u8; 655_360]) {
-    read(data);
+fn read<R: Read>(rt: &impl Print, from: &mut R, data: &mut [u8]) -> io::Result<()> {
+    let n = read_full(from, data);
+    with_input(rt, &data[..n])
 }
 
-fn main() {
+fn read_into<R: Read>(rt: &impl Print, from: &mut R, data: &mut [u8; 655_360]) -> io::Result<()> {
+    read(rt, from, data)
+}
+
+fn main(rt: HostRuntime) -> io::Result<()> {
     let mut data = [0u8; 655_360];
-    read_into(&mut data);
+    read_into(&rt, &mut rt.stdin(), &mut data)
 }
