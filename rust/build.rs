@@ -1,4 +1,4 @@
-//! Links libboundary.a, the static library that `rt staticlib boundary` makes.
+//! Links libboundary.a, the static library that `rt lib` makes in crates/boundary.
 
 use std::env;
 use std::path::{Path, PathBuf};
@@ -25,14 +25,15 @@ fn main() {
 /// The project's own folder for it. Where the archive is not there yet, it is proved and made.
 fn made_in_the_project() -> PathBuf {
     let root = Path::new(&env::var_os("CARGO_MANIFEST_DIR").unwrap()).parent().unwrap().to_path_buf();
-    let folder = root.join("target/staticlib");
+    let boundary = root.join("crates/boundary");
+    let folder = boundary.join("out");
     if !folder.join(ARCHIVE).exists() {
         println!(
-            "cargo::warning=no {ARCHIVE} in target/staticlib: running `rt staticlib boundary`, which proves it first"
+            "cargo::warning=no {ARCHIVE} in crates/boundary/out: running `rt lib` in crates/boundary, which proves it first"
         );
-        let made = Command::new("rt").args(["staticlib", "boundary"]).current_dir(&root).status();
+        let made = Command::new("rt").arg("lib").current_dir(&boundary).status();
         let made = made.unwrap_or_else(|e| panic!("rt: {e}. BRINEBUTTON_LIB can name a folder that holds {ARCHIVE}"));
-        assert!(made.success(), "`rt staticlib boundary` made no {ARCHIVE}");
+        assert!(made.success(), "`rt lib` in crates/boundary made no {ARCHIVE}");
     }
     folder
 }
