@@ -2,7 +2,7 @@
 ghost use Rattle.std.specs.Prelude.{◌<◌};
 
 // A number that was read, and where the next byte stands. `whole` is false where bytes are missing.
-#[derive(Drop)]
+#[derive(Clone, Copy)]
 pub(crate) struct Read {
     pub(crate) value: u64,
     pub(crate) next: usize,

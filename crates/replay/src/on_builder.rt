@@ -4,7 +4,7 @@ use crate::{expect, file, lent, on_numbers};
 use builder::{Answer, Builder, Built};
 
 // Where the answer goes on, and the builder for the next call.
-#[derive(Drop)]
+#[derive(Clone, Copy)]
 pub(crate) struct Left {
     pub(crate) want: usize,
     pub(crate) builder: Builder,

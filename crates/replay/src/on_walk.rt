@@ -4,7 +4,7 @@ use crate::{expect, file, lent, on_opcodes};
 use walk::{Cursor, Found, Mode};
 
 // Where the answer and the walk go on after a call.
-#[derive(Drop)]
+#[derive(Clone, Copy)]
 struct Gone {
     want: usize,
     at: usize,

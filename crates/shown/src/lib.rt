@@ -13,7 +13,7 @@ use std::io::Read;
 const MAX_READ: usize = 2801;
 
 // What the reads brought: how many bytes in all, and what the last of them answered; 1 before the first.
-#[derive(Drop)]
+#[derive(Clone, Copy)]
 pub struct Reads {
     pub done: usize,
     pub last: isize,
