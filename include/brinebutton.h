@@ -1,7 +1,7 @@
 /*
  * Brinebutton: questions about Bitcoin scripts, every answer proved.
  *
- * Link with crates/boundary/out/libboundary.a, which `rt lib` in crates/boundary makes (x86-64; beside it nothing but the C library).
+ * Link with crates/boundary/out/libboundary.a, which `rt lib` in crates/boundary makes (x86-64-v2; beside it nothing but the C library).
  *
  * One convention for all functions:
  * - The result is 0; or the number of a refusal, one of those that are listed below under 'The refusals'; or BB_SHORT_VALUES, which is no refusal but a

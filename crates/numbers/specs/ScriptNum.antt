@@ -49,7 +49,7 @@ unfoldable pub non_minimal : List ℕ → Bool
 non_minimal vch =
     ltb 0 (length vch) && (eqb (back vch % 0x80) 0 && (leb (length vch) 1 || ltb (get_or vch (length vch - 2) 0) 0x80))
 
--- CScriptNum::n_default_max_num_size
+-- CScriptNum::nDefaultMaxNumSize
 abbrev pub n_default_max_num_size : ℕ
 n_default_max_num_size = 4
 

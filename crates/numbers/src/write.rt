@@ -62,8 +62,8 @@ fn put(m: u64, negative: bool, out: &mut [u8])
 
 // Writes n at the front of out and answers the count of bytes; refuses -2^63, and an out that is too short.
 pub fn write_scriptint(n: i64, out: &mut [u8]) -> Counted
-    ensures result_value { said_count result ≡ write_says n (length out.old) }
-    ensures out_after { out.new ≡ after (write_says n (length out.old)) (serialize n) out.old }
+    ensures answer { said_count result ≡ write_says n (length out.old) }
+    ensures left { out.new ≡ after (write_says n (length out.old)) (serialize n) out.old }
 {
     let Counted::Count(count) = scriptint_len(n) else {
         return Counted::Refused(Refusal::NumberOutOfRange);

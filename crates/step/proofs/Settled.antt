@@ -6,7 +6,7 @@ use Rattle.walk.specs.Answer.{is_minimal}
 use Rattle.walk.specs.declared.Mode.{Mode}
 use Rattle.walk.specs.declared.Mode.TheVariants.{Plain, Minimal}
 use Rattle.hand.proofs.Handing.{same_handed}
-use Rattle.step.proofs.mode_of.Reads as Mode-of
+use Rattle.step.proofs.mode_of.Reads as mode_of
 use Rattle.step.proofs.next.Reads as next
 use Rattle.step.proofs.body.Reads as body
 use Rattle.step.proofs.advance.Reads as advance
@@ -17,7 +17,7 @@ same_mode Plain Minimal e = cc
 same_mode Minimal Plain e = cc
 same_mode Minimal Minimal e = refl
 
-pub mode_of_settled : (κs : _) (a : _) (r t : Mode) (s u : _) → Mode-of.Post κs a r s → Mode-of.Post κs a t u → r ≡ t
+pub mode_of_settled : (κs : _) (a : _) (r t : Mode) (s u : _) → mode_of.Post κs a r s → mode_of.Post κs a t u → r ≡ t
 mode_of_settled κs a r t s u = settled same_mode r t
 
 pub next_settled : (κs : _) (a : _) (r t : ℕ) (s u : _) → next.Post κs a r s → next.Post κs a t u → (r ≡ t) × (s.1.1.1.0.now ≡ u.1.1.1.0.now)

@@ -17,4 +17,4 @@ pub returns : goal.returns
 returns c =
     let old = c.args.out.now in
     let z = to_z-of_z c.ranges.n in
-    (says_as 1 one _ c.count.ensures (c.write_scriptint.ensures.result_value ∙ ap (λ n. write_says n (length old)) z), changed _ old c.if-values-lt1.false (c.write_scriptint.ensures.out_after ∙ ap (λ n. after (write_says n (length old)) (serialize n) old) z))
+    (says_as 1 one _ c.count.ensures (c.write_scriptint.ensures.answer ∙ ap (λ n. write_says n (length old)) z), changed _ old c.if-values-lt1.false (c.write_scriptint.ensures.left ∙ ap (λ n. after (write_says n (length old)) (serialize n) old) z))

@@ -28,7 +28,7 @@ module _ (w : After-write_scriptint-written) where
   no-opcode = sym (ap said_code w.in_default.is) ∙ w.int_opcode-opcode.ensures ∙ ap int_opcode (to_z-of_z w.ranges.n)
 
   said : said_count w.write_scriptint-written.result ≡ write_says w.args.n 8
-  said = w.write_scriptint-written.ensures.result_value ∙ ap (λ (n : ℤ). write_says n 8) (to_z-of_z w.ranges.n)
+  said = w.write_scriptint-written.ensures.answer ∙ ap (λ (n : ℤ). write_says n 8) (to_z-of_z w.ranges.n)
 
 -- the bytes before they are written
 abbrev zeros : List ℕ
@@ -60,7 +60,7 @@ returns-in-Count c =
     c.push_slice.ensures
     ∙ same_call a.self.length (said_code a.self.remembered) a.buffer.now _ (push_int a.n)
     (number_call a.n _ (no-opcode s) (count_is a.n f (said s) c.in-Count.is).0
-    (bytes_are a.n f (said s) zeros c.in-Count.is (c.write_scriptint-written.ensures.out_after ∙ ap (λ (n : ℤ). after (write_says n 8) (serialize n) zeros) (to_z-of_z f))))
+    (bytes_are a.n f (said s) zeros c.in-Count.is (c.write_scriptint-written.ensures.left ∙ ap (λ (n : ℤ). after (write_says n 8) (serialize n) zeros) (to_z-of_z f))))
 
 pub returns-in-Refused : goal.returns-in-Refused
 returns-in-Refused c =

@@ -37,12 +37,12 @@ module _ (s : In-Count) where
 pub returns-in_default : goal.returns-in_default
 returns-in_default c =
     let l = c.scriptint_len in
-    let p = out_of_range c.args.n c.args.out.now (least c.args.n (l.ensures ∙ ap len_says (to_z-of_z c.ranges.n)) c.in_default.is) in record { result_value = p.0; out_after = p.1 }
+    let p = out_of_range c.args.n c.args.out.now (least c.args.n (l.ensures ∙ ap len_says (to_z-of_z c.ranges.n)) c.in_default.is) in record { answer = p.0; left = p.1 }
 
 pub returns-then-out-count : goal.returns-then-out-count
 returns-then-out-count c =
     let s = (goal.at.returns-then-out-count c).In-Count in
-    let p = no_room (number s) (old s) (sized s) c.if-out-count.true in record { result_value = p.0; out_after = p.1 }
+    let p = no_room (number s) (old s) (sized s) c.if-out-count.true in record { answer = p.0; left = p.1 }
 
 pub magnitude-requires : goal.magnitude-requires
 magnitude-requires c =
@@ -61,9 +61,9 @@ pub returns-then-count-gt0 : goal.returns-then-count-gt0
 returns-then-count-gt0 c =
     let s = (goal.at.returns-then-count-gt0 c).In-Count in
     let b = put-bytes s c.if-count-gt0.true c.magnitude.ensures in
-    let p = room (number s) (old s) (sized s) c.if-out-count.false (rw (sym b) c.put.ensures) in record { result_value = p.0; out_after = p.1 }
+    let p = room (number s) (old s) (sized s) c.if-out-count.false (rw (sym b) c.put.ensures) in record { answer = p.0; left = p.1 }
 
 pub returns-else-count-gt0 : goal.returns-else-count-gt0
 returns-else-count-gt0 c =
     let s = (goal.at.returns-else-count-gt0 c).In-Count in
-    let p = no_byte (number s) (old s) (sized s) c.if-count-gt0.false in record { result_value = p.0; out_after = p.1 }
+    let p = no_byte (number s) (old s) (sized s) c.if-count-gt0.false in record { answer = p.0; left = p.1 }
