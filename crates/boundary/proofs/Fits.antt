@@ -2,7 +2,7 @@
 -- at most, and any other one. Assumes nothing.
 use mathlib.Core.Bool.{Bool, ◌&&◌, ◌||◌}
 use mathlib.Core.List.{List, []}
-use mathlib.Core.Option.{Option, none, some}
+use Rattle.std.specs.Prelude.{Option, None, Some}
 use Prim.Native.Nat.{ℕ, zero, suc, ◌*◌, ◌-◌, ◌≤◌}
 use native.Mathlib.Omega.{arith}
 use lib.Dec.{ltb, leb, eqb}
@@ -29,7 +29,8 @@ use Rattle.building.specs.Builder.{State, Call, push_opcode, push_slice, int_opc
 use Rattle.building.specs.Lent.{not_last, builder_says, built_says, within, leaves, calls}
 use Rattle.script.proofs.Step.{by_lack}
 use Rattle.hand.specs.Handed.{Fits, Brief, one, yes, maybe, walked_row}
-use Rattle.hand.proofs.Handing.{one_fits, walked_fits}
+use Rattle.hand.specs.Row.{one_fits}
+use Rattle.hand.proofs.Handing.{walked_fits}
 
 brief_fits : {A : Type 0} (least : ℕ) (row : A → List ℕ) → ((a : A) → length (row a) ≤ least) → (said : Said A) → Brief least said → Fits least row said
 brief_fits least row fits (answers a) h = fits a
@@ -146,16 +147,16 @@ unfolding push_int
 int_brief n st = go (int_opcode n)
   where
     go : (o : Option ℕ) → Brief 1 (push_number o n st)
-    go (some code) = omega arith
-    go none = by_test (Brief 1) (is_least n) (λ e. omega arith) (λ e. slice_brief (serialize n) st)
+    go (Some code) = omega arith
+    go None = by_test (Brief 1) (is_least n) (λ e. omega arith) (λ e. slice_brief (serialize n) st)
 
 pub verify_brief : (st : State) → Brief 1 (push_verify st)
 unfolding push_verify
 verify_brief st = go (verify_form st.remembered)
   where
     go : (o : Option ℕ) → Brief 1 (push_verified o st)
-    go (some code) = omega arith
-    go none = omega arith
+    go (Some code) = omega arith
+    go None = omega arith
 
 pub start_brief : (st : State) → Brief 1 (takes_over st)
 start_brief st = omega arith

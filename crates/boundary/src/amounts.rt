@@ -10,7 +10,7 @@ ghost use Rattle.hand.specs.Handed.{handed, says, one};
 pub extern "C" fn bb_count_sigops(script: &[u8], values: &mut [u64]) -> u32
     ensures { handed result values.new ≡ says 1 one (count_says true script.now) values.old }
 {
-    hand::count(counts::count_sigops(script), values)
+    hand::over(counts::count_sigops(script), values)
 }
 
 // The signature operations with 20 for every CHECKMULTISIG.
@@ -18,7 +18,7 @@ pub extern "C" fn bb_count_sigops(script: &[u8], values: &mut [u64]) -> u32
 pub extern "C" fn bb_count_sigops_legacy(script: &[u8], values: &mut [u64]) -> u32
     ensures { handed result values.new ≡ says 1 one (count_says false script.now) values.old }
 {
-    hand::count(counts::count_sigops_legacy(script), values)
+    hand::over(counts::count_sigops_legacy(script), values)
 }
 
 // The least amount that is no dust.
@@ -26,7 +26,7 @@ pub extern "C" fn bb_count_sigops_legacy(script: &[u8], values: &mut [u64]) -> u
 pub extern "C" fn bb_minimal_non_dust(script: &[u8], values: &mut [u64]) -> u32
     ensures { handed result values.new ≡ says 1 one (dust_says script.now) values.old }
 {
-    hand::dust(dust::minimal_non_dust(script), values)
+    hand::over(dust::minimal_non_dust(script), values)
 }
 
 // The same at a rate in satoshi per 1000 weight units.
@@ -34,7 +34,7 @@ pub extern "C" fn bb_minimal_non_dust(script: &[u8], values: &mut [u64]) -> u32
 pub extern "C" fn bb_minimal_non_dust_custom(script: &[u8], rate: u64, values: &mut [u64]) -> u32
     ensures { handed result values.new ≡ says 1 one (custom_says script.now rate) values.old }
 {
-    hand::dust(dust::minimal_non_dust_custom(script, rate), values)
+    hand::over(dust::minimal_non_dust_custom(script, rate), values)
 }
 
 // The length of the asm text.
@@ -42,5 +42,5 @@ pub extern "C" fn bb_minimal_non_dust_custom(script: &[u8], rate: u64, values: &
 pub extern "C" fn bb_asm_len(script: &[u8], values: &mut [u64]) -> u32
     ensures { handed result values.new ≡ says 1 one (asm_len_says script.now) values.old }
 {
-    hand::count(text::asm_len(script), values)
+    hand::over(text::asm_len(script), values)
 }

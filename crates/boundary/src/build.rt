@@ -1,6 +1,8 @@
 // The builder: its state goes in as two numbers and comes back in the values.
+#![tactic(auto, using(hand::proofs::Handing::builds_short), unfolding(hand::specs::Handed::unless_short))]
+
 ghost use Rattle.std.specs.Prelude.{◌≡◌, [], ◌∷◌, pos, length};
-ghost use Rattle.std.proofs.Math.Option.{none};
+ghost use Rattle.std.specs.Prelude.{None};
 ghost use Rattle.laws.specs.Said.{answers};
 ghost use Rattle.building.specs.Builder.{push_opcode, push_slice, push_int, push_verify, takes_over};
 ghost use Rattle.building.specs.Lent.{calls, shown};
@@ -9,7 +11,6 @@ ghost use Rattle.hand.specs.Handed.{handed, says, gives, builds, unless_short, o
 use builder::Builder;
 use hand::SHORT_VALUES;
 use held::{STATE_VALUES, builder_of, built, remembered_as};
-use refusal::Counted;
 
 // An empty script, nothing remembered.
 #[unsafe(no_mangle)]
@@ -17,14 +18,13 @@ pub extern "C" fn bb_builder_new(values: &mut [u64]) -> u32
     ensures { handed result values.new ≡ gives 2 (0 ∷ (256 ∷ [])) values.old }
 {
     let builder = Builder::new();
-    let remembered = builder.remembered;
-    hand::two(builder.length, remembered_as(remembered), values)
+    hand::two(builder.length, remembered_as(builder.remembered), values)
 }
 
 // A builder over the first bytes of a buffer.
 #[unsafe(no_mangle)]
 pub extern "C" fn bb_builder_start(buffer: &[u8], used: usize, values: &mut [u64]) -> u32
-    ensures { handed result values.new ≡ builds (calls takes_over used none buffer.now) values.old }
+    ensures { handed result values.new ≡ builds (calls takes_over used None buffer.now) values.old }
 {
     built(Builder::start(buffer, used), values)
 }
@@ -153,5 +153,5 @@ pub extern "C" fn bb_builder_as_bytes(
     ensures { handed result values.new ≡ says 1 one (answers (shown used (remembered_of remembered) buffer.now)) values.old }
 {
     let bytes = builder_of(used, remembered).as_bytes(buffer);
-    hand::count(Counted::Count(bytes.len()), values)
+    hand::over(Ok(bytes.len()), values)
 }

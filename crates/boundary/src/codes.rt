@@ -7,14 +7,12 @@ ghost use Rattle.numbers.specs.ScriptNum.{script_num, n_default_max_num_size};
 ghost use Rattle.numbers.specs.Answer.{len_says, bool_says};
 ghost use Rattle.hand.specs.Handed.{handed, says, reads, one, yes, maybe, sort_row};
 
-use refusal::Counted;
-
 // The sort of an opcode byte.
 #[unsafe(no_mangle)]
 pub extern "C" fn bb_classify(code: u8, values: &mut [u64]) -> u32
     ensures { handed result values.new ≡ says 2 sort_row (answers (sort_of code)) values.old }
 {
-    hand::class(opcodes::classify(code), values)
+    hand::over(Ok(opcodes::classify(code)), values)
 }
 
 // The number that a number opcode carries.
@@ -22,7 +20,7 @@ pub extern "C" fn bb_classify(code: u8, values: &mut [u64]) -> u32
 pub extern "C" fn bb_decode_pushnum(code: u8, values: &mut [u64]) -> u32
     ensures { handed result values.new ≡ says 2 (maybe one) (answers (pushnum_of code)) values.old }
 {
-    hand::code(opcodes::decode_pushnum(code), values)
+    hand::over(Ok(opcodes::decode_pushnum(code)), values)
 }
 
 // The opcode that does the same and then verifies.
@@ -30,7 +28,7 @@ pub extern "C" fn bb_decode_pushnum(code: u8, values: &mut [u64]) -> u32
 pub extern "C" fn bb_opcode_to_verify(code: u8, values: &mut [u64]) -> u32
     ensures { handed result values.new ≡ says 2 (maybe one) (answers (verify_of code)) values.old }
 {
-    hand::code(opcodes::opcode_to_verify(code), values)
+    hand::over(Ok(opcodes::opcode_to_verify(code)), values)
 }
 
 // The length of an opcode's name.
@@ -38,7 +36,7 @@ pub extern "C" fn bb_opcode_to_verify(code: u8, values: &mut [u64]) -> u32
 pub extern "C" fn bb_name_len(code: u8, values: &mut [u64]) -> u32
     ensures { handed result values.new ≡ says 1 one (answers (length (name_of code))) values.old }
 {
-    hand::count(Counted::Count(names::name_len(code)), values)
+    hand::over(Ok(names::name_len(code)), values)
 }
 
 // How many bytes `bb_write_scriptint` needs.
@@ -46,7 +44,7 @@ pub extern "C" fn bb_name_len(code: u8, values: &mut [u64]) -> u32
 pub extern "C" fn bb_scriptint_len(n: i64, values: &mut [u64]) -> u32
     ensures { handed result values.new ≡ says 1 one (len_says n) values.old }
 {
-    hand::count(numbers::scriptint_len(n), values)
+    hand::over(numbers::scriptint_len(n), values)
 }
 
 // A number in the writer's form.
@@ -70,5 +68,5 @@ pub extern "C" fn bb_read_scriptint_non_minimal(v: &[u8], number: &mut [i64]) ->
 pub extern "C" fn bb_read_scriptbool(v: &[u8], values: &mut [u64]) -> u32
     ensures { handed result values.new ≡ says 1 yes (bool_says v.now) values.old }
 {
-    hand::judged(numbers::read_scriptbool(v), values)
+    hand::over(numbers::read_scriptbool(v), values)
 }

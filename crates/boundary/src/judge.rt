@@ -11,7 +11,7 @@ ghost use Rattle.hand.specs.Handed.{handed, says, gives, one, yes, maybe, two_of
 pub extern "C" fn bb_is_p2sh(script: &[u8], values: &mut [u64]) -> u32
     ensures { handed result values.new ≡ says 1 yes (judges is_pay_to_script_hash script.now) values.old }
 {
-    hand::judged(templates::is_p2sh(script), values)
+    hand::over(templates::is_p2sh(script), values)
 }
 
 // Whether a script pays to the hash of a public key.
@@ -19,7 +19,7 @@ pub extern "C" fn bb_is_p2sh(script: &[u8], values: &mut [u64]) -> u32
 pub extern "C" fn bb_is_p2pkh(script: &[u8], values: &mut [u64]) -> u32
     ensures { handed result values.new ≡ says 1 yes (judges is_pay_to_pubkey_hash script.now) values.old }
 {
-    hand::judged(templates::is_p2pkh(script), values)
+    hand::over(templates::is_p2pkh(script), values)
 }
 
 // Whether a script is a witness program.
@@ -27,7 +27,7 @@ pub extern "C" fn bb_is_p2pkh(script: &[u8], values: &mut [u64]) -> u32
 pub extern "C" fn bb_is_witness_program(script: &[u8], values: &mut [u64]) -> u32
     ensures { handed result values.new ≡ says 1 yes (judges is_witness_program script.now) values.old }
 {
-    hand::judged(templates::is_witness_program(script), values)
+    hand::over(templates::is_witness_program(script), values)
 }
 
 // Whether a script pays to the hash of a public key, as a witness program.
@@ -35,7 +35,7 @@ pub extern "C" fn bb_is_witness_program(script: &[u8], values: &mut [u64]) -> u3
 pub extern "C" fn bb_is_p2wpkh(script: &[u8], values: &mut [u64]) -> u32
     ensures { handed result values.new ≡ says 1 yes (judges is_pay_to_witness_pubkey_hash script.now) values.old }
 {
-    hand::judged(templates::is_p2wpkh(script), values)
+    hand::over(templates::is_p2wpkh(script), values)
 }
 
 // Whether a script pays to a script hash, as a witness program.
@@ -43,7 +43,7 @@ pub extern "C" fn bb_is_p2wpkh(script: &[u8], values: &mut [u64]) -> u32
 pub extern "C" fn bb_is_p2wsh(script: &[u8], values: &mut [u64]) -> u32
     ensures { handed result values.new ≡ says 1 yes (judges is_pay_to_witness_script_hash script.now) values.old }
 {
-    hand::judged(templates::is_p2wsh(script), values)
+    hand::over(templates::is_p2wsh(script), values)
 }
 
 // Whether a script pays to a taproot output key.
@@ -51,7 +51,7 @@ pub extern "C" fn bb_is_p2wsh(script: &[u8], values: &mut [u64]) -> u32
 pub extern "C" fn bb_is_p2tr(script: &[u8], values: &mut [u64]) -> u32
     ensures { handed result values.new ≡ says 1 yes (judges is_pay_to_taproot script.now) values.old }
 {
-    hand::judged(templates::is_p2tr(script), values)
+    hand::over(templates::is_p2tr(script), values)
 }
 
 // Whether a script pays to an anchor.
@@ -59,7 +59,7 @@ pub extern "C" fn bb_is_p2tr(script: &[u8], values: &mut [u64]) -> u32
 pub extern "C" fn bb_is_p2a(script: &[u8], values: &mut [u64]) -> u32
     ensures { handed result values.new ≡ says 1 yes (judges is_pay_to_anchor script.now) values.old }
 {
-    hand::judged(templates::is_p2a(script), values)
+    hand::over(templates::is_p2a(script), values)
 }
 
 // Whether a script pays to a public key.
@@ -67,7 +67,7 @@ pub extern "C" fn bb_is_p2a(script: &[u8], values: &mut [u64]) -> u32
 pub extern "C" fn bb_is_p2pk(script: &[u8], values: &mut [u64]) -> u32
     ensures { handed result values.new ≡ says 1 yes (judges is_pay_to_pubkey script.now) values.old }
 {
-    hand::judged(templates::is_p2pk(script), values)
+    hand::over(templates::is_p2pk(script), values)
 }
 
 // Whether a script is a multisig script.
@@ -75,7 +75,7 @@ pub extern "C" fn bb_is_p2pk(script: &[u8], values: &mut [u64]) -> u32
 pub extern "C" fn bb_is_multisig(script: &[u8], values: &mut [u64]) -> u32
     ensures { handed result values.new ≡ says 1 yes (judges is_multisig script.now) values.old }
 {
-    hand::judged(templates::is_multisig(script), values)
+    hand::over(templates::is_multisig(script), values)
 }
 
 // Whether a script starts with OP_RETURN.
@@ -83,7 +83,7 @@ pub extern "C" fn bb_is_multisig(script: &[u8], values: &mut [u64]) -> u32
 pub extern "C" fn bb_is_op_return(script: &[u8], values: &mut [u64]) -> u32
     ensures { handed result values.new ≡ says 1 yes (judges is_op_return script.now) values.old }
 {
-    hand::judged(templates::is_op_return(script), values)
+    hand::over(templates::is_op_return(script), values)
 }
 
 // Whether a script has pushes alone.
@@ -91,7 +91,7 @@ pub extern "C" fn bb_is_op_return(script: &[u8], values: &mut [u64]) -> u32
 pub extern "C" fn bb_is_push_only(script: &[u8], values: &mut [u64]) -> u32
     ensures { handed result values.new ≡ says 1 yes (judges is_push_only script.now) values.old }
 {
-    hand::judged(templates::is_push_only(script), values)
+    hand::over(templates::is_push_only(script), values)
 }
 
 // The witness version.
@@ -99,23 +99,25 @@ pub extern "C" fn bb_is_push_only(script: &[u8], values: &mut [u64]) -> u32
 pub extern "C" fn bb_witness_version(script: &[u8], values: &mut [u64]) -> u32
     ensures { handed result values.new ≡ says 2 (maybe one) (judges witness_version script.now) values.old }
 {
-    hand::version(templates::witness_version(script), values)
+    hand::over(templates::witness_version(script), values)
 }
 
 // Where the key of a pay-to-pubkey script lies.
+#[tactic(auto, using(hand::proofs::Handing::says_place))]
 #[unsafe(no_mangle)]
 pub extern "C" fn bb_p2pk_key(script: &[u8], values: &mut [u64]) -> u32
     ensures { handed result values.new ≡ says 3 (maybe two_of) (judges pubkey_of script.now) values.old }
 {
-    hand::place(templates::p2pk_key(script), values)
+    hand::over(templates::p2pk_key(script), values)
 }
 
 // Where the last body of a script of pushes alone lies.
+#[tactic(auto, using(hand::proofs::Handing::says_place))]
 #[unsafe(no_mangle)]
 pub extern "C" fn bb_redeem_script(script: &[u8], values: &mut [u64]) -> u32
     ensures { handed result values.new ≡ says 3 (maybe two_of) (judges redeem_script script.now) values.old }
 {
-    hand::place(templates::redeem_script(script), values)
+    hand::over(templates::redeem_script(script), values)
 }
 
 // The key of a pay-to-pubkey script, as a part.
@@ -139,5 +141,5 @@ pub extern "C" fn bb_redeem_part(script: &[u8], values: &mut [u64]) -> u32
 pub extern "C" fn bb_kind(script: &[u8], values: &mut [u64]) -> u32
     ensures { handed result values.new ≡ says 1 kind_row (judges kind_of script.now) values.old }
 {
-    hand::kind(templates::kind(script), values)
+    hand::over(templates::kind(script), values)
 }

@@ -8,7 +8,6 @@ ghost use Rattle.places.specs.Places.{places_of, positions_say};
 ghost use Rattle.hand.specs.Handed.{handed, says, gives, steps, advances, moved_to, unless_short, one, minimal_of};
 
 use hand::SHORT_VALUES;
-use refusal::Counted;
 use walk::Cursor;
 
 // The least number of entries for what is said of the places: a count, or a refusal of the walk with up to two values.
@@ -19,7 +18,7 @@ const POSITIONS_VALUES: usize = 2;
 pub extern "C" fn bb_cursor_new(values: &mut [u64]) -> u32
     ensures { handed result values.new ≡ says 1 one (answers 0) values.old }
 {
-    hand::count(Counted::Count(Cursor::new().at), values)
+    hand::over(Ok(Cursor::new().at), values)
 }
 
 // What stands at a place.
@@ -52,6 +51,7 @@ pub extern "C" fn bb_advance(
 }
 
 // Every instruction's place, in a lent table.
+#[tactic(auto, using(hand::proofs::Handing::says_short, hand::proofs::Handing::says_least), unfolding(hand::specs::Handed::unless_short))]
 #[unsafe(no_mangle)]
 pub extern "C" fn bb_positions(
     script: &[u8],
@@ -64,7 +64,7 @@ pub extern "C" fn bb_positions(
     if values.len() < POSITIONS_VALUES {
         return SHORT_VALUES;
     }
-    hand::count(
+    hand::over(
         places::positions(script, step::mode_of(mode), table),
         values,
     )

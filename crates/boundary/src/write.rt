@@ -1,4 +1,6 @@
 // What is written into a lent buffer.
+#![tactic(auto, using(hand::proofs::Handing::says_short), unfolding(hand::specs::Handed::unless_short))]
+
 ghost use Rattle.std.specs.Prelude.{◌≡◌, length};
 ghost use Rattle.laws.specs.Buffer.{writes, after};
 ghost use Rattle.pool.specs.Names.{name_of};
@@ -21,7 +23,7 @@ pub extern "C" fn bb_write_name(code: u8, out: &mut [u8], values: &mut [u64]) ->
     if values.len() < 1 {
         return SHORT_VALUES;
     }
-    hand::count(names::write_name(code, out), values)
+    hand::over(names::write_name(code, out), values)
 }
 
 // A number in the fewest bytes.
@@ -32,7 +34,7 @@ pub extern "C" fn bb_write_scriptint(n: i64, out: &mut [u8], values: &mut [u64])
     if values.len() < 1 {
         return SHORT_VALUES;
     }
-    hand::count(numbers::write_scriptint(n, out), values)
+    hand::over(numbers::write_scriptint(n, out), values)
 }
 
 // The script code of a P2WPKH script.
@@ -43,7 +45,7 @@ pub extern "C" fn bb_p2wpkh_script_code(script: &[u8], out: &mut [u8], values: &
     if values.len() < 2 {
         return SHORT_VALUES;
     }
-    hand::coded(templates::p2wpkh_script_code(script, out), values)
+    hand::over(templates::p2wpkh_script_code(script, out), values)
 }
 
 // The asm text.
@@ -54,7 +56,7 @@ pub extern "C" fn bb_write_asm(script: &[u8], out: &mut [u8], values: &mut [u64]
     if values.len() < 1 {
         return SHORT_VALUES;
     }
-    hand::count(text::write_asm(script, out), values)
+    hand::over(text::write_asm(script, out), values)
 }
 
 // The script of a witness version and program.
@@ -70,7 +72,7 @@ pub extern "C" fn bb_witness_program(
     if values.len() < 1 {
         return SHORT_VALUES;
     }
-    hand::count(witness::witness_program(version, program, out), values)
+    hand::over(witness::witness_program(version, program, out), values)
 }
 
 // The inspector's screen.
@@ -81,5 +83,5 @@ pub extern "C" fn bb_inspect(script: &[u8], out: &mut [u8], values: &mut [u64]) 
     if values.len() < 1 {
         return SHORT_VALUES;
     }
-    hand::count(inspect::inspect(script, out), values)
+    hand::over(inspect::inspect(script, out), values)
 }

@@ -4,8 +4,7 @@ use mathlib.Core.Path.{◌≡◌, sym, ◌∙◌}
 use mathlib.Core.List.{List}
 use Prim.Native.Nat.{ℕ}
 use denote.Ref.{Bor}
-use Rattle.laws.proofs.Settled.{settled, same_value}
-use Rattle.opcodes.proofs.Same.{same_code}
+use Rattle.laws.proofs.Settled.{same_value}
 use Rattle.building.specs.Lent.{Outcome}
 use Rattle.builder.specs.Answer.{said_built}
 use Rattle.builder.specs.declared.Builder.{Builder}
@@ -26,7 +25,7 @@ both : {x : Outcome} (r t : Built) (old new : List ℕ) → said_built r old ≡
 both r t old new p q = same_built r t old new (p ∙ sym q)
 
 pub new_settled : (κs : _) (a : _) (r t : Builder) (s u : _) → new.Post κs a r s → new.Post κs a t u → r ≡ t
-new_settled κs a r t s u p q = same_builder r t (same_value p.0 q.0) (settled same_code r.remembered t.remembered p.1 q.1)
+new_settled κs a r t s u p q = same_builder r t (same_value p.0 q.0) (same_value p.1 q.1)
 
 pub start_settled : (κs : _) (a : _) (r t : Built) (s u : _) → start.Post κs a r s → start.Post κs a t u → r ≡ t
 start_settled κs a r t s u p q = (both r t _ _ p q).0

@@ -4,7 +4,7 @@ use mathlib.Core.Path.{◌≡◌, refl, sym}
 use mathlib.Core.Logic.{⊎_elim}
 use mathlib.Core.Bool.{false}
 use mathlib.Core.List.{List, [], ◌∷◌, ◌++◌}
-use mathlib.Core.Option.{Option, none, some}
+use Rattle.std.specs.Prelude.{Option, None, Some}
 use Prim.Native.Nat.{ℕ, zero, suc, ◌+◌, ◌-◌, ◌≤◌, ◌<◌}
 use native.Mathlib.Omega.{arith}
 use borrow.Author.Tests.{le-ltb, eq-eqb, ne_eqb}
@@ -41,22 +41,22 @@ unfolding push_int
 int_ends n st = go (int_opcode n)
   where
     go : (o : Option ℕ) → EndsIn (push_number o n st)
-    go (some code) = opcode_ends code st
-    go none = by_test EndsIn (is_least n) (λ e. tt) (λ e. slice_ends (serialize n) st)
+    go (Some code) = opcode_ends code st
+    go None = by_test EndsIn (is_least n) (λ e. tt) (λ e. slice_ends (serialize n) st)
 
 pub verify_ends : Ends push_verify
 unfolding push_verify
 verify_ends st = go (verify_form st.remembered)
   where
     go : (o : Option ℕ) → EndsIn (push_verified o st)
-    go none = opcode_ends 0x69 st
-    go (some code) = opcode_ends code (record { bytes = take (length st.bytes - 1) st.bytes; remembered = st.remembered })
+    go None = opcode_ends 0x69 st
+    go (Some code) = opcode_ends code (record { bytes = take (length st.bytes - 1) st.bytes; remembered = st.remembered })
 
 -- ---- bytes that are taken over: the walk's last opcode is the byte before its end
 
 abbrev LastAt : List ℕ → ℕ → Option ℕ → Type 0
-LastAt s p none = Unit {0}
-LastAt s p (some code) = (0 < p) × (get_or s (p - 1) 0 ≡ code)
+LastAt s p None = Unit {0}
+LastAt s p (Some code) = (0 < p) × (get_or s (p - 1) 0 ≡ code)
 
 -- what the walk from here on makes of the last opcode
 abbrev final : Option ℕ → Run → Option ℕ
@@ -69,8 +69,8 @@ module _ (s : List ℕ) where
   step n p last (answers end) g h l f = rw g.0 l
   step n p last (answers (found (opcode place code))) g h l f =
       let e : p + 1 - 1 ≡ p = omega arith in
-      f (p + 1) (some code) (omega (arith, g.fits)) (omega arith, rw e (sym g.is))
-  step n p last (answers (found (push place form body len))) g h l f = f _ none (omega (arith, g.fits, g.starts)) tt
+      f (p + 1) (Some code) (omega (arith, g.fits)) (omega arith, rw e (sym g.is))
+  step n p last (answers (found (push place form body len))) g h l f = f _ None (omega (arith, g.fits, g.starts)) tt
   step n p last (refuses number values) g h l f = tt
 
   last_at : (n p : ℕ) (last : Option ℕ) → length s - p < n → LastAt s p last → LastAt s (length s) (final last (walk_for n false s p))
@@ -80,21 +80,21 @@ module _ (s : List ℕ) where
 
 last_byte : (s : List ℕ) → LastAt s (length s) (last_if_opcode s)
 unfolding last_if_opcode walk_from
-last_byte s = last_at s (suc (length s - 0)) 0 none (omega arith) tt
+last_byte s = last_at s (suc (length s - 0)) 0 None (omega arith) tt
 
 pub start_ends : Ends takes_over
 start_ends st = go (last_if_opcode st.bytes) (last_byte st.bytes)
   where
     go : (o : Option ℕ) → LastAt st.bytes (length st.bytes) o → not_last o (length st.bytes) st.bytes ≡ false
-    go none l = refl
-    go (some code) l = rw (ne_eqb (length st.bytes) 0 (omega arith), l.1, eq-eqb code code refl)
+    go None l = refl
+    go (Some code) l = rw (ne_eqb (length st.bytes) 0 (omega arith), l.1, eq-eqb code code refl)
 
 -- ---- the next call
 
 -- what stands after the used bytes does not matter
 not_last_more : (o : Option ℕ) (s more : List ℕ) → not_last o (length s) (s ++ more) ≡ not_last o (length s) s
-not_last_more none s more = refl
-not_last_more (some code) s more =
+not_last_more None s more = refl
+not_last_more (Some code) s more =
     ⊎_elim
     (λ (h : 0 < length s). rw (get_or-append s more 0 (length s - 1) (omega arith)))
     (λ (z : length s ≤ 0). rw (eq-eqb (length s) 0 (omega arith)))

@@ -1,6 +1,6 @@
 -- What each builder call makes of the script so far, from document 01, 'Builder'. Assumes nothing.
 use Rattle.std.specs.Prelude.{false, List, [], ◌∷◌, ◌++◌, ℕ, ◌+◌, ◌-◌, leb, eqb, ℤ, pos, negsuc, length, take}
-use Rattle.std.proofs.Math.Option.{Option, none, some}
+use Rattle.std.specs.Prelude.{Option, None, Some}
 use Rattle.std.specs.Prelude.{if◌then◌else◌}
 use Rattle.laws.specs.Said.{Said, answers, refuses}
 use Rattle.opcodes.specs.Core.{OP_0, OP_1NEGATE, OP_1, OP_VERIFY}
@@ -27,7 +27,7 @@ appends new remembered st = answers (record { bytes = st.bytes ++ new; remembere
 
 -- an opcode is one byte, and is remembered; any byte is taken, 0 to 78 too
 abbrev pub push_opcode : ℕ → Call
-push_opcode code = appends (code ∷ []) (some code)
+push_opcode code = appends (code ∷ []) (Some code)
 
 -- 'A push uses the shortest length form': by the length alone
 abbrev pub push_form : ℕ → PushForm
@@ -39,17 +39,17 @@ push_form len =
 
 -- '.. never a number opcode: `05` is pushed as `01 05`'; none is remembered after a data push
 unfoldable pub push_slice : List ℕ → Call
-push_slice body = appends (encode (push (push_form (length body)) body)) none
+push_slice body = appends (encode (push (push_form (length body)) body)) None
 
 -- 'An integer -1 or 1..16 is its opcode, 0 is byte 0'; `negsuc n` is -(n + 1)
 abbrev pub int_opcode : ℤ → Option ℕ
-int_opcode (pos n) = if eqb n 0 then some OP_0 else if leb n 16 then some (OP_1 - 1 + n) else none
-int_opcode (negsuc n) = if eqb n 0 then some OP_1NEGATE else none
+int_opcode (pos n) = if eqb n 0 then Some OP_0 else if leb n 16 then Some (OP_1 - 1 + n) else None
+int_opcode (negsuc n) = if eqb n 0 then Some OP_1NEGATE else None
 
 -- '.. others are number pushes', and -2^63 is refusal 6
 abbrev pub push_number : Option ℕ → ℤ → Call
-push_number (some code) n st = push_opcode code st
-push_number none n st = if is_least n then refuses 6 [] else push_slice (serialize n) st
+push_number (Some code) n st = push_opcode code st
+push_number None n st = if is_least n then refuses 6 [] else push_slice (serialize n) st
 
 -- push_int; lock time and sequence are 32-bit integers pushed so
 unfoldable pub push_int : ℤ → Call
@@ -57,13 +57,13 @@ push_int n = push_number (int_opcode n) n
 
 -- the verify form of what is remembered, where it has one
 abbrev pub verify_form : Option ℕ → Option ℕ
-verify_form none = none
-verify_form (some code) = verify_of code
+verify_form None = None
+verify_form (Some code) = verify_of code
 
 -- a verify form takes the place of the last byte
 abbrev pub push_verified : Option ℕ → Call
-push_verified none st = push_opcode OP_VERIFY st
-push_verified (some code) st = push_opcode code (record { bytes = take (length st.bytes - 1) st.bytes; remembered = st.remembered })
+push_verified None st = push_opcode OP_VERIFY st
+push_verified (Some code) st = push_opcode code (record { bytes = take (length st.bytes - 1) st.bytes; remembered = st.remembered })
 
 -- 'Verify replaces a remembered opcode that has a verify form; else it appends 0x69'
 unfoldable pub push_verify : Call
@@ -71,17 +71,17 @@ push_verify st = push_verified (verify_form st.remembered) st
 
 -- the opcode of an instruction that is one
 abbrev pub opcode_in : Item → Option ℕ
-opcode_in (opcode place code) = some code
-opcode_in (walk.push place form body len) = none
+opcode_in (opcode place code) = Some code
+opcode_in (walk.push place form body len) = None
 
 -- the walk's last opcode, by the answer that ended the walk
 abbrev pub unless_refused : Option ℕ × Said Walked → Option ℕ
 unless_refused (last, answers w) = last
-unless_refused (last, refuses number values) = none
+unless_refused (last, refuses number values) = None
 
 -- 'the plain walk's last instruction if an opcode and nothing was refused'
 unfoldable pub last_if_opcode : List ℕ → Option ℕ
-last_if_opcode s = unless_refused (fold (λ last i. opcode_in i) none (walk_from false s 0))
+last_if_opcode s = unless_refused (fold (λ last i. opcode_in i) None (walk_from false s 0))
 
 -- 'Bytes taken over as a start remember' that
 abbrev pub takes_over : Call

@@ -1,6 +1,6 @@
 -- A builder call over a lent buffer: the refusals in document 01's order, and what the call leaves. Assumes nothing.
 use Rattle.std.specs.Prelude.{◌≡◌, Bool, false, not, ◌||◌, List, [], ◌∷◌, ◌++◌, ℕ, ◌-◌, ltb, eqb, length, take, drop, get_or}
-use Rattle.std.proofs.Math.Option.{Option, none, some}
+use Rattle.std.specs.Prelude.{Option, None, Some}
 use Rattle.std.specs.Prelude.{if◌then◌else◌}
 use Rattle.laws.specs.Said.{Said, answers, refuses, unless}
 use Rattle.refusal.specs.Refusal.{limit}
@@ -8,8 +8,8 @@ use Rattle.building.specs.Builder.{State, Call}
 
 -- refusal 13: 'an opcode is remembered and the length is 0 or the last byte is another'
 abbrev pub not_last : Option ℕ → ℕ → List ℕ → Bool
-not_last none used buffer = false
-not_last (some code) used buffer = eqb used 0 || not (eqb (get_or buffer (used - 1) 0) code)
+not_last None used buffer = false
+not_last (Some code) used buffer = eqb used 0 || not (eqb (get_or buffer (used - 1) 0) code)
 
 -- the builder that a call is given: 1 for its used length, then 13
 unfoldable pub builder_says : ℕ → Option ℕ → List ℕ → Said (Unit {0})

@@ -1,4 +1,3 @@
-pub mod Weight
 pub mod Turns
 pub mod Enough
 pub mod Settled

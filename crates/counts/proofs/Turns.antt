@@ -7,7 +7,7 @@ use mathlib.Core.List.{List, []}
 use Prim.Native.Nat.{ℕ, zero, suc, ◌+◌, ◌-◌, ◌≤◌, ◌<◌}
 use native.Mathlib.Nat.{add-zero}
 use native.Mathlib.Omega.{arith}
-use borrow.Author.Tests.{lt-ltb, le-ltb, le-leb}
+use borrow.Author.Tests.{lt-ltb, le-ltb, le-leb, ne_eqb}
 use lib.ListN.{length, get_or, take, drop}
 use Rattle.laws.specs.Said.{answers, refuses}
 use Rattle.laws.proofs.Test.{lt_or_le}
@@ -18,7 +18,6 @@ use Rattle.script.specs.Walk.{found, opcode, push, judged, walk_says, next_at}
 use Rattle.script.proofs.Good.{OpcodeAt, PushAt, good_answer}
 use Rattle.script.proofs.Minimal.{IsOf}
 use Rattle.script.proofs.Step.{inside, push_code, opcode_read, push_read}
-use Rattle.counts.proofs.Weight.{counts_none_below}
 use Rattle.counts.specs.Count.{sig_ops, while, get_sig_op_count}
 use Rattle.opcodes.specs.Core.{OP_INVALIDOPCODE}
 
@@ -87,10 +86,15 @@ below pushdata1 b o = omega arith
 below pushdata2 b o = omega arith
 below pushdata4 b o = omega arith
 
+counts_none : (acc : Bool) (last code : ℕ) → code < 0xac → sig_ops acc last code ≡ 0
+unfolding sig_ops
+counts_none acc last code h =
+    rw (ne_eqb code 0xac (omega arith), ne_eqb code 0xad (omega arith), ne_eqb code 0xae (omega arith), ne_eqb code 0xaf (omega arith))
+
 pub push_none : (acc : Bool) (last : ℕ) (s : List ℕ) (p : ℕ) {place : ℕ} {form : PushForm} {body len : ℕ} → PushAt false s p place form body len
     → sig_ops acc last (get_or s p 0) ≡ 0
 push_none acc last s p {form = form} g =
-    let h = below form (get_or s p 0) (push_code (get_or s p 0) form g.form_is) in counts_none_below acc last (get_or s p 0) (omega arith)
+    let h = below form (get_or s p 0) (push_code (get_or s p 0) form g.form_is) in counts_none acc last (get_or s p 0) (omega arith)
 
 -- ---- one turn of a loop over the plain walk, by what `Cursor::next` found
 

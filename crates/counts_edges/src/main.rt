@@ -1,8 +1,9 @@
 // Prints signature counts, dust amounts and witness scripts at the edges of their inputs, one line for each call. A lent buffer is filled with 0xee
 // before the call and printed whole after it, so that a byte that was not written shows.
+// A group of inputs is a function of its own: the groups differ in what they ask, and a table over all of them would have rows of unlike sorts.
 #![tactic(auto)]
 
-use dust::Dust;
+use refusal::Refusal;
 use std::io;
 
 // A script by its bytes, or by their count where there are many.
@@ -18,19 +19,16 @@ fn script_name(rt: &impl Print, script: &[u8]) -> io::Result<()> {
 fn count_line(rt: &impl Print, script: &[u8]) -> io::Result<()> {
     show::text(rt, b"sigops")?;
     script_name(rt, script)?;
-    show::counted(rt, counts::count_sigops(script))?;
+    show::answer(rt, counts::count_sigops(script))?;
     show::text(rt, b" legacy")?;
-    show::counted(rt, counts::count_sigops_legacy(script))?;
+    show::answer(rt, counts::count_sigops_legacy(script))?;
     show::line_end(rt)
 }
 
-fn dust(rt: &impl Print, answer: Dust) -> io::Result<()> {
+fn dust(rt: &impl Print, answer: Result<u64, Refusal>) -> io::Result<()> {
     match answer {
-        Dust::Satoshi(n) => {
-            show::text(rt, b" satoshi ")?;
-            show::decimal(rt, n)
-        }
-        Dust::Refused(r) => show::refused(rt, r),
+        Ok(n) => print!(rt; " satoshi {n}"),
+        Err(r) => show::refused(rt, r),
     }
 }
 
@@ -42,8 +40,7 @@ fn dust_line(rt: &impl Print, script: &[u8]) -> io::Result<()> {
 }
 
 fn custom_line(rt: &impl Print, script: &[u8], rate: u64) -> io::Result<()> {
-    show::text(rt, b"rate ")?;
-    show::decimal(rt, rate)?;
+    print!(rt; "rate {rate}")?;
     script_name(rt, script)?;
     dust(rt, dust::minimal_non_dust_custom(script, rate))?;
     show::line_end(rt)
@@ -51,29 +48,44 @@ fn custom_line(rt: &impl Print, script: &[u8], rate: u64) -> io::Result<()> {
 
 // What a number opcode does for the multisig directly after it, and for no other.
 fn numbers_before(rt: &impl Print) -> io::Result<()> {
-    count_line(rt, b"")?;
-    count_line(rt, b"\x52\xae\xae")?;
-    count_line(rt, b"\x52\xac\xae")?;
-    count_line(rt, b"\x52\xae\x53\xaf")?;
-    count_line(rt, b"\x52\x01\xaa\xae")?;
-    count_line(rt, b"\x02\x51\x52\xae")
+    for script in [
+        b"".as_slice(),
+        b"\x52\xae\xae",
+        b"\x52\xac\xae",
+        b"\x52\xae\x53\xaf",
+        b"\x52\x01\xaa\xae",
+        b"\x02\x51\x52\xae",
+    ] {
+        count_line(rt, script)?;
+    }
+    Ok(())
 }
 
 fn opcodes_before(rt: &impl Print) -> io::Result<()> {
-    count_line(rt, b"\x00\xae")?;
-    count_line(rt, b"\x50\xae")?;
-    count_line(rt, b"\x51\xae")?;
-    count_line(rt, b"\x60\xaf")?;
-    count_line(rt, b"\x61\xae")?;
-    count_line(rt, b"\xac\xad\xae\xaf")?;
-    count_line(rt, b"\xab\xb0\xba")
+    for script in [
+        b"\x00\xae".as_slice(),
+        b"\x50\xae",
+        b"\x51\xae",
+        b"\x60\xaf",
+        b"\x61\xae",
+        b"\xac\xad\xae\xaf",
+        b"\xab\xb0\xba",
+    ] {
+        count_line(rt, script)?;
+    }
+    Ok(())
 }
 
 fn cut_scripts(rt: &impl Print) -> io::Result<()> {
-    count_line(rt, b"\xac\x4c")?;
-    count_line(rt, b"\xac\x02\xac")?;
-    count_line(rt, b"\xac\x4d\x01\x00\xac\xac\x4b")?;
-    count_line(rt, b"\x4e\xff\xff\xff\xff\xac")
+    for script in [
+        b"\xac\x4c".as_slice(),
+        b"\xac\x02\xac",
+        b"\xac\x4d\x01\x00\xac\xac\x4b",
+        b"\x4e\xff\xff\xff\xff\xac",
+    ] {
+        count_line(rt, script)?;
+    }
+    Ok(())
 }
 
 // Twenty keys, whose number no opcode states, and sixteen.
@@ -92,13 +104,18 @@ fn many_keys(rt: &impl Print) -> io::Result<()> {
 }
 
 fn short_dust(rt: &impl Print) -> io::Result<()> {
-    dust_line(rt, b"")?;
-    dust_line(rt, b"\x6a")?;
-    dust_line(rt, b"\x6a\x01\x00")?;
-    dust_line(rt, b"\x51\x01\x4e")?;
-    dust_line(rt, b"\x51\x02\x4e\x73")?;
-    dust_line(rt, b"\x50\x02\x4e\x73")?;
-    dust_line(rt, b"\x51\x03\x4e\x73")
+    for script in [
+        b"".as_slice(),
+        b"\x6a",
+        b"\x6a\x01\x00",
+        b"\x51\x01\x4e",
+        b"\x51\x02\x4e\x73",
+        b"\x50\x02\x4e\x73",
+        b"\x51\x03\x4e\x73",
+    ] {
+        dust_line(rt, script)?;
+    }
+    Ok(())
 }
 
 // Witness scripts of 22, 34 and 42 bytes, and one byte more than the longest.
@@ -121,8 +138,7 @@ fn witness_dust(rt: &impl Print) -> io::Result<()> {
 
 // The first n bytes of a long script.
 fn first_part(rt: &impl Print, script: &[u8], n: usize) -> io::Result<()> {
-    if n <= script.len() {
-        let part = &script[..n];
+    if let Some(part) = script.get(..n) {
         count_line(rt, part)?;
         dust_line(rt, part)?;
         custom_line(rt, part, 750)?;
@@ -132,12 +148,10 @@ fn first_part(rt: &impl Print, script: &[u8], n: usize) -> io::Result<()> {
 
 // Where the length is stated in more bytes, at the limit and one byte over it.
 fn lengths_in(rt: &impl Print, script: &[u8; 4_194_305]) -> io::Result<()> {
-    first_part(rt, script, 252)?;
-    first_part(rt, script, 253)?;
-    first_part(rt, script, 65535)?;
-    first_part(rt, script, 65536)?;
-    first_part(rt, script, 4_194_304)?;
-    first_part(rt, script, 4_194_305)
+    for n in [252, 253, 65535, 65536, 4_194_304, 4_194_305] {
+        first_part(rt, script, n)?;
+    }
+    Ok(())
 }
 
 fn lengths(rt: &impl Print) -> io::Result<()> {
@@ -146,12 +160,17 @@ fn lengths(rt: &impl Print) -> io::Result<()> {
 }
 
 fn rates(rt: &impl Print, script: &[u8]) -> io::Result<()> {
-    custom_line(rt, script, 0)?;
-    custom_line(rt, script, 1)?;
-    custom_line(rt, script, 750)?;
-    custom_line(rt, script, 4_611_686_018_427_387_903)?;
-    custom_line(rt, script, 4_611_686_018_427_387_904)?;
-    custom_line(rt, script, 18_446_744_073_709_551_615)
+    for rate in [
+        0,
+        1,
+        750,
+        4_611_686_018_427_387_903,
+        4_611_686_018_427_387_904,
+        u64::MAX,
+    ] {
+        custom_line(rt, script, rate)?;
+    }
+    Ok(())
 }
 
 // For the empty script, for P2A and for OP_RETURN; and the largest rates that the first two take.
@@ -166,67 +185,39 @@ fn all_rates(rt: &impl Print) -> io::Result<()> {
 }
 
 fn witness_into(rt: &impl Print, version: u8, program: &[u8], out: &mut [u8]) -> io::Result<()> {
-    show::text(rt, b"witness")?;
-    show::named(rt, b"version", version as usize)?;
-    show::named(rt, b"program", program.len())?;
-    show::named(rt, b"room", out.len())?;
-    show::text(rt, b":")?;
-    show::counted(rt, witness::witness_program(version, program, out))?;
+    let bytes = program.len();
+    let room = out.len();
+    print!(rt; "witness version {version} program {bytes} room {room}:")?;
+    show::answer(rt, witness::witness_program(version, program, out))?;
     show::text(rt, b" buffer")?;
     show::hex(rt, out)?;
     show::line_end(rt)
 }
 
-// A program of n bytes, with room for at most the whole of buffer.
-fn witness_part(
-    rt: &impl Print,
-    version: u8,
-    program: &[u8],
-    n: usize,
-    buffer: &mut [u8],
-    room: usize,
-) -> io::Result<()> {
-    if n <= program.len() {
-        if room <= buffer.len() {
-            witness_into(rt, version, &program[..n], &mut buffer[..room])?;
-        }
-    }
-    Ok(())
-}
-
+// A program of n bytes, of at most 41, with room for at most the whole of buffer.
 fn witness_line(rt: &impl Print, version: u8, n: usize, room: usize) -> io::Result<()> {
     let program = [7u8; 41];
     let mut buffer = [0xeeu8; 44];
-    witness_part(rt, version, &program, n, &mut buffer, room)
-}
-
-// One byte too few, and just enough.
-fn witness_lines(rt: &impl Print, version: u8, n: usize) -> io::Result<()> {
-    if n < 42 {
-        witness_line(rt, version, n, n + 1)?;
-        witness_line(rt, version, n, n + 2)?;
+    if let (Some(part), Some(out)) = (program.get(..n), buffer.get_mut(..room)) {
+        witness_into(rt, version, part, out)?;
     }
     Ok(())
 }
 
+// Programs around the lengths that are taken, each with one byte too few and with just enough.
 fn witness_lengths(rt: &impl Print, version: u8) -> io::Result<()> {
-    witness_lines(rt, version, 0)?;
-    witness_lines(rt, version, 1)?;
-    witness_lines(rt, version, 2)?;
-    witness_lines(rt, version, 19)?;
-    witness_lines(rt, version, 20)?;
-    witness_lines(rt, version, 21)?;
-    witness_lines(rt, version, 32)?;
-    witness_lines(rt, version, 33)?;
-    witness_lines(rt, version, 40)?;
-    witness_lines(rt, version, 41)
+    for n in [0u8, 1, 2, 19, 20, 21, 32, 33, 40, 41] {
+        let len = usize::from(n);
+        witness_line(rt, version, len, len + 1)?;
+        witness_line(rt, version, len, len + 2)?;
+    }
+    Ok(())
 }
 
 fn witness_versions(rt: &impl Print) -> io::Result<()> {
-    witness_lengths(rt, 0)?;
-    witness_lengths(rt, 1)?;
-    witness_lengths(rt, 16)?;
-    witness_lengths(rt, 17)?;
+    for version in [0, 1, 16, 17] {
+        witness_lengths(rt, version)?;
+    }
     witness_line(rt, 1, 2, 0)?;
     witness_line(rt, 1, 2, 7)
 }

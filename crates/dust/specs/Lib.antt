@@ -1,2 +1,1 @@
 pub mod Dust
-pub mod Answer

@@ -1,9 +1,7 @@
 -- Each entry is settled: two outcomes that its contract permits for one input are equal. Assumes nothing.
 use mathlib.Core.Path.{◌≡◌}
 use mathlib.Core.Bool.{Bool}
-use Rattle.laws.proofs.Settled.{settled, same_value}
-use Rattle.opcodes.specs.declared.Code.{Code}
-use Rattle.opcodes.proofs.Same.{same_code}
+use Rattle.laws.proofs.Settled.{same_value}
 use Rattle.fixed.proofs.p2sh.Reads as p2sh
 use Rattle.fixed.proofs.p2pkh.Reads as p2pkh
 use Rattle.fixed.proofs.version.Reads as version
@@ -12,6 +10,8 @@ use Rattle.fixed.proofs.program.Reads as program
 use Rattle.fixed.proofs.p2a.Reads as p2a
 use Rattle.fixed.proofs.p2pk.Reads as p2pk
 use Rattle.fixed.proofs.op_return.Reads as op-return
+use Rattle.std.specs.Prelude.{Option}
+use Prim.Native.Nat.{ℕ}
 
 pub p2sh_settled : (κs : _) (a : _) (r t : Bool) (s u : _) → p2sh.Post κs a r s → p2sh.Post κs a t u → r ≡ t
 p2sh_settled κs a r t s u = same_value
@@ -19,8 +19,8 @@ p2sh_settled κs a r t s u = same_value
 pub p2pkh_settled : (κs : _) (a : _) (r t : Bool) (s u : _) → p2pkh.Post κs a r s → p2pkh.Post κs a t u → r ≡ t
 p2pkh_settled κs a r t s u = same_value
 
-pub version_settled : (κs : _) (a : _) (r t : Code) (s u : _) → version.Post κs a r s → version.Post κs a t u → r ≡ t
-version_settled κs a r t s u = settled same_code r t
+pub version_settled : (κs : _) (a : _) (r t : Option ℕ) (s u : _) → version.Post κs a r s → version.Post κs a t u → r ≡ t
+version_settled κs a r t s u = same_value
 
 pub witness_settled : (κs : _) (a : _) (r t : Bool) (s u : _) → witness.Post κs a r s → witness.Post κs a t u → r ≡ t
 witness_settled κs a r t s u = same_value

@@ -1,6 +1,6 @@
 -- Templates whose bytes stand at fixed places of a script. Assumes nothing.
 use Rattle.std.specs.Prelude.{Bool, ◌&&◌, ◌||◌, List, [], ◌∷◌, ◌++◌, ℕ, ◌+◌, ◌-◌, leb, eqb, length, get_or, drop}
-use Rattle.std.proofs.Math.Option.{Option, none, some}
+use Rattle.std.specs.Prelude.{Option, None, Some}
 use Rattle.std.specs.Prelude.{if◌then◌else◌}
 use Rattle.opcodes.specs.Core.{OP_0, OP_1, OP_16, OP_RETURN, OP_DUP, OP_EQUAL, OP_EQUALVERIFY, OP_HASH160, OP_CHECKSIG, decode_op_n}
 
@@ -32,7 +32,7 @@ program_length s = length s - 2
 
 -- the version of a witness program; nothing for all else
 unfoldable pub witness_version : List ℕ → Option ℕ
-witness_version s = if is_witness_program s then some (version_of s) else none
+witness_version s = if is_witness_program s then Some (version_of s) else None
 
 -- a witness program of this version, with a program of so many bytes
 unfoldable pub is_program_of : (version size : ℕ) → List ℕ → Bool

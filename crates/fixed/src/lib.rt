@@ -2,11 +2,10 @@
 #![tactic(auto)]
 
 ghost use Rattle.std.specs.Prelude.{◌≡◌};
-ghost use Rattle.opcodes.specs.Opcode.{said_code};
 ghost use Rattle.fixed.specs.Fixed.{is_pay_to_script_hash, is_pay_to_pubkey_hash, witness_version, is_program_of, is_pay_to_anchor, is_key_of, is_pay_to_pubkey, is_op_return, is_witness_program};
 
 use opcodes::{
-    Code, OP_0, OP_CHECKSIG, OP_DUP, OP_EQUAL, OP_EQUALVERIFY, OP_HASH160, OP_PUSHNUM_1, OP_RETURN,
+    OP_0, OP_CHECKSIG, OP_DUP, OP_EQUAL, OP_EQUALVERIFY, OP_HASH160, OP_PUSHNUM_1, OP_RETURN,
 };
 
 // The bytes of the scripts whose length is fixed.
@@ -40,6 +39,7 @@ const MIN_WITNESS: usize = 4;
 const MAX_WITNESS: usize = 42;
 
 // Pay to script hash.
+#[tactic(auto, unfolding(crate::specs::Fixed::is_pay_to_script_hash))]
 pub fn p2sh(s: &[u8]) -> bool
     ensures { result ≡ is_pay_to_script_hash s.now }
 {
@@ -51,6 +51,7 @@ pub fn p2sh(s: &[u8]) -> bool
 }
 
 // Pay to pubkey hash.
+#[tactic(auto, unfolding(crate::specs::Fixed::is_pay_to_pubkey_hash))]
 pub fn p2pkh(s: &[u8]) -> bool
     ensures { result ≡ is_pay_to_pubkey_hash s.now }
 {
@@ -66,53 +67,49 @@ pub fn p2pkh(s: &[u8]) -> bool
 }
 
 // The version of a witness program.
-pub fn version(s: &[u8]) -> Code
-    ensures { said_code result ≡ witness_version s.now }
+#[tactic(auto, unfolding(crate::specs::Fixed::witness_version, crate::specs::Fixed::is_witness_program))]
+pub fn version(s: &[u8]) -> Option<u8>
+    ensures { result ≡ witness_version s.now }
 {
     let n = s.len();
     if n < MIN_WITNESS {
-        return Code::Nothing;
+        return None;
     }
     if MAX_WITNESS < n {
-        return Code::Nothing;
+        return None;
     }
     if s[1] as usize + 2 != n {
-        return Code::Nothing;
+        return None;
     }
     let code = s[0];
     if code == OP_0 {
-        return Code::Is(0);
+        return Some(0);
     }
     opcodes::decode_pushnum(code)
 }
 
 // Whether a script is a witness program.
+#[tactic(auto, using(crate::proofs::Versions::some_version))]
 pub fn witness(s: &[u8]) -> bool
     ensures { result ≡ is_witness_program s.now }
 {
-    let found = version(s);
-    match found {
-        Code::Is(_) => true,
-        Code::Nothing => false,
-    }
+    version(s).is_some()
 }
 
 // Whether a script is a witness program of this version, with a program of so many bytes.
+#[tactic(auto, using(crate::proofs::Versions::same_length, crate::proofs::Versions::other_length))]
 pub fn program(s: &[u8], number: u8, size: u8) -> bool
     ensures { result ≡ is_program_of number size s.now }
 {
     if s.len() == size as usize + 2 {
-        let found = version(s);
-        match found {
-            Code::Is(v) => v == number,
-            Code::Nothing => false,
-        }
+        version(s) == Some(number)
     } else {
         false
     }
 }
 
 // Pay to anchor.
+#[tactic(auto, unfolding(crate::specs::Fixed::is_pay_to_anchor))]
 pub fn p2a(s: &[u8]) -> bool
     ensures { result ≡ is_pay_to_anchor s.now }
 {
@@ -127,6 +124,7 @@ pub fn p2a(s: &[u8]) -> bool
 }
 
 // Whether a script is a key of so many bytes and OP_CHECKSIG.
+#[tactic(auto, unfolding(crate::specs::Fixed::is_key_of))]
 fn keyed(s: &[u8], size: u8) -> bool
     ensures { result ≡ is_key_of size s.now }
 {
@@ -139,6 +137,7 @@ fn keyed(s: &[u8], size: u8) -> bool
 }
 
 // Pay to pubkey.
+#[tactic(auto, unfolding(crate::specs::Fixed::is_pay_to_pubkey))]
 pub fn p2pk(s: &[u8]) -> bool
     ensures { result ≡ is_pay_to_pubkey s.now }
 {
@@ -146,6 +145,7 @@ pub fn p2pk(s: &[u8]) -> bool
 }
 
 // Whether a script starts with OP_RETURN.
+#[tactic(auto, unfolding(crate::specs::Fixed::is_op_return))]
 pub fn op_return(s: &[u8]) -> bool
     ensures { result ≡ is_op_return s.now }
 {

@@ -1,19 +1,20 @@
 -- How an answer is handed over: the slice is too short, or it has room and what is said is an answer or a refusal. Assumes nothing.
 use mathlib.Core.Path.{◌≡◌, refl, sym, ap, ◌∙◌}
 use mathlib.Core.Logic.{⊎_elim}
-use mathlib.Core.Bool.{Bool, or-true}
+use mathlib.Core.Bool.{or-true}
 use mathlib.Core.List.{List, [], ◌∷◌, ◌++◌}
-use mathlib.Core.Option.{Option, none, some}
+use Rattle.std.specs.Prelude.{Option, None, Some, Result, Ok, Err}
 use Prim.Native.Nat.{ℕ, suc, ◌+◌, ◌≤◌, ◌<◌}
 use native.Mathlib.Omega.{arith}
 use borrow.Author.Tests.{lt-ltb, le-ltb}
 use lib.Dec.{ltb}
-use lib.Seq.{sets}
+use lib.Seq.{sets, set_out}
 use lib.IntN.{ℤ}
 use lib.ListN.{length, drop, set}
 use Rattle.std.specs.Prelude.{if◌then◌else◌}
 use Rattle.laws.specs.Said.{Said, answers, refuses}
 use Rattle.refusal.specs.Refusal.{said_refusal}
+use Rattle.refusal.specs.Answer.{said, said_by}
 use Rattle.refusal.specs.Refusal as refusals
 use Rattle.refusal.specs.declared.Refusal.{Refusal}
 use Rattle.refusal.specs.declared.Refusal.TheVariants.{
@@ -32,35 +33,12 @@ use Rattle.refusal.specs.declared.Refusal.TheVariants.{
   LengthCut,
   BodyCut,
 }
-use Rattle.opcodes.specs.Opcode.{Sort}
-use Rattle.opcodes.specs.Opcode as sort
 use Rattle.script.specs.Walk.{Walked, end, found, opcode, push}
-use Rattle.walked.specs.Walked.{Stretch, stretch}
-use Rattle.templates.specs.Kind.{Kind, p2pkh, p2sh, p2wpkh, p2wsh, p2tr, p2a, witness, p2pk, multisig, opreturn, other}
-use Rattle.building.specs.Builder.{Call}
-use Rattle.building.specs.Lent.{Outcome, calls}
-use Rattle.hand.specs.Handed.{
-  Handed,
-  handed,
-  SHORT_VALUES,
-  number_said,
-  values_said,
-  into,
-  says,
-  gives,
-  reads,
-  steps,
-  builds,
-  unless_short,
-  one,
-  yes,
-  maybe,
-  two_of,
-  sort_row,
-  kind_row,
-  walked_row,
-  remembered_as,
-}
+use Rattle.walked.specs.Walked.{stretch}
+use Rattle.walked.specs.Answer.{said_place}
+use Rattle.walked.specs.declared.Place.{Place}
+use Rattle.building.specs.Lent.{Outcome}
+use Rattle.hand.specs.Handed.{Handed, handed, SHORT_VALUES, number_said, values_said, into, says, gives, reads, steps, builds, maybe, two_of, walked_row, remembered_as}
 use Rattle.laws.proofs.Test.{lt_or_le}
 use Rattle.laws.proofs.Stored.{stored_front}
 
@@ -79,6 +57,15 @@ pub roomy : {E : Type 0} {least number r : ℕ} {row v new : List E} (old : List
     → new ≡ sets old 0 v → handed r new ≡ into least number row old
 roomy {least = least} {v = v} old h k e f g =
     rw (le-ltb (length old) least h, f, le-ltb (length old) (length v) k, e, g, stored_front v old k) refl
+
+-- From behind the slice's end on nothing is stored.
+pub stored_out : (l : List ℕ) (i : ℕ) (w : List ℕ) → length l ≤ i → sets l i w ≡ l
+stored_out l i [] h = refl
+stored_out l i (a ∷ w) h = ap (λ m. sets m (suc i) w) (set_out l i a h) ∙ stored_out l (suc i) w (omega arith)
+
+-- .. whatever it is.
+pub out_alike : {new : List ℕ} (l : List ℕ) (i : ℕ) (v w : List ℕ) → length l ≤ i → new ≡ sets l i v → new ≡ sets l i w
+out_alike l i v w h e = e ∙ stored_out l i v h ∙ sym (stored_out l i w h)
 
 -- Of two least numbers that the slice has room for, either may be named.
 pub least_as : {E : Type 0} (least more number : ℕ) (row old : List E) → least ≤ length old → more ≤ length old
@@ -112,38 +99,6 @@ few BadVersion = omega arith
 few BadBuilder = omega arith
 few (LengthCut place missing) = omega arith
 few (BodyCut place missing) = omega arith
-
--- The row of an answer fits the least number of its call.
-pub one_fits : (n : ℕ) → length (one n) ≤ 1
-one_fits n = omega arith
-
-pub yes_fits : (b : Bool) → length (yes b) ≤ 1
-yes_fits b = omega arith
-
-pub kinds_fit : (k : Kind) → length (kind_row k) ≤ 1
-kinds_fit p2pkh = omega arith
-kinds_fit p2sh = omega arith
-kinds_fit p2wpkh = omega arith
-kinds_fit p2wsh = omega arith
-kinds_fit p2tr = omega arith
-kinds_fit p2a = omega arith
-kinds_fit witness = omega arith
-kinds_fit p2pk = omega arith
-kinds_fit multisig = omega arith
-kinds_fit opreturn = omega arith
-kinds_fit other = omega arith
-
-pub sort_fits : (s : Sort) → length (sort_row s) ≤ 2
-sort_fits (sort.push form) = omega arith
-sort_fits sort.number = omega arith
-sort_fits sort.plain = omega arith
-
-pub two_fits : (s : Stretch) → length (two_of s) ≤ 2
-two_fits (stretch start len) = omega arith
-
-pub maybe_fits : {A : Type 0} (row : A → List ℕ) (n : ℕ) → ((a : A) → length (row a) ≤ n) → (o : Option A) → length (maybe row o) ≤ suc n
-maybe_fits row n f none = omega arith
-maybe_fits row n f (some a) = omega (arith, f a)
 
 -- What the walk found takes five entries at most, and the place for the next call one more.
 pub walked_fits : (w : Walked) → length (walked_row w) ≤ 5
@@ -185,6 +140,21 @@ module _ {A : Type 0} {least : ℕ} (row : A → List ℕ) (said : Said A) (old 
   unfolding says
   says_refused why k e g = g ∙ least_as 0 least (refusals.number_of why) (refusals.values_of why) old (omega arith) k ∙ rw e refl
 
+-- What is said of an answer is said by the row of what is said.
+pub says_by : {A B : Type 0} (least : ℕ) (row : B → List ℕ) (f : A → B) (r : Result A Refusal) (old : List ℕ)
+    → says least (λ a. row (f a)) (said r) old ≡ says least row (said_by f r) old
+unfolding says
+says_by least row f (Ok a) old = refl
+says_by least row f (Err why) old = refl
+
+-- .. and so is what is said of a place.
+pub says_place : (least : ℕ) (r : Result (Option Place) Refusal) (old : List ℕ)
+    → says least (maybe (λ p. two_of (stretch p.start p.len))) (said r) old ≡ says least (maybe two_of) (said_by said_place r) old
+unfolding says
+says_place least (Ok None) old = refl
+says_place least (Ok (Some p)) old = refl
+says_place least (Err why) old = refl
+
 -- A call may name either of two least numbers that the slice has room for.
 pub says_least : {A : Type 0} (least more : ℕ) (row : A → List ℕ) (said : Said A) (old : List ℕ) → least ≤ length old → more ≤ length old
     → says least row said old ≡ says more row said old
@@ -218,12 +188,6 @@ module _ (said : Said ℤ) (old : List ℤ) where
 pub says_as : {A : Type 0} (least : ℕ) (row : A → List ℕ) (old : List ℕ) {a b : Said A} {h : Handed ℕ} → h ≡ says least row a old → a ≡ b
     → h ≡ says least row b old
 says_as least row old p e = p ∙ ap (λ s. says least row s old) e
-
-pub gives_as : (least : ℕ) (old : List ℕ) {a b : List ℕ} {h : Handed ℕ} → h ≡ gives least a old → a ≡ b → h ≡ gives least b old
-gives_as least old p e = p ∙ ap (λ row. gives least row old) e
-
-pub reads_as : (old : List ℤ) {a b : Said ℤ} {h : Handed ℤ} → h ≡ reads a old → a ≡ b → h ≡ reads b old
-reads_as old p e = p ∙ ap (λ s. reads s old) e
 
 module _ (next : ℕ) (said : Said Walked) (old : List ℕ) where
   pub steps_short : length old < 6 → handed SHORT_VALUES old ≡ steps next said old
@@ -262,26 +226,6 @@ module _ (o : Outcome) (old : List ℕ) where
   unfolding builds
   builds_refused why h k e g =
       roomy old h (omega arith) (ap number_said e ∙ sym g.0) (ap (λ s. state (values_said (λ done. []) s)) e) g.1
-
-pub steps_as : (old : List ℕ) {n m : ℕ} {a b : Said Walked} {h : Handed ℕ} → h ≡ steps n a old → n ≡ m → a ≡ b → h ≡ steps m b old
-steps_as old {n} {m} {a} {b} p d e = p ∙ ap (λ k. steps k a old) d ∙ ap (λ s. steps m s old) e
-
-pub builds_as : (old : List ℕ) {a b : Outcome} {h : Handed ℕ} → h ≡ builds a old → a ≡ b → h ≡ builds b old
-builds_as old p e = p ∙ ap (λ o. builds o old) e
-
--- a call by the builder that two numbers stand for
-pub calls_as : (call : Call) (buffer : List ℕ) {used length : ℕ} {a b : Option ℕ} → used ≡ length → a ≡ b
-    → calls call used a buffer ≡ calls call length b buffer
-calls_as call buffer {used} {length} {a} {b} d e = ap (λ n. calls call n a buffer) d ∙ ap (λ m. calls call length m buffer) e
-
--- another lent slice
-pub kept : {A : Type 0} {least room : ℕ} (new old : A) → room < least → old ≡ unless_short least room new old
-unfolding unless_short
-kept {least = least} {room} new old h = rw (lt-ltb room least h) refl
-
-pub changed : {A : Type 0} {least room : ℕ} {x : A} (new old : A) → least ≤ room → x ≡ new → x ≡ unless_short least room new old
-unfolding unless_short
-changed {least = least} {room} new old h e = rw (le-ltb room least h) e
 
 -- what was handed over alike is the same
 injective : {E : Type 0} {r t : ℕ} {x y : List E} → handed r x ≡ handed t y → (r ≡ t) × (x ≡ y)

@@ -1,6 +1,6 @@
 -- The convention by which an answer goes over to C: a number, and values at the front of a lent slice. Assumes nothing.
 use Rattle.std.specs.Prelude.{Bool, not, ◌||◌, List, [], ◌∷◌, ◌++◌, ℕ, ◌≤◌, ltb, eqb, ℤ, length, drop}
-use Rattle.std.proofs.Math.Option.{Option, none, some}
+use Rattle.std.specs.Prelude.{Option, None, Some}
 use Rattle.std.specs.Prelude.{if◌then◌else◌}
 use Rattle.laws.specs.Said.{Said, answers, refuses}
 use Rattle.opcodes.specs.Opcode.{Sort, length_bytes}
@@ -65,8 +65,8 @@ yes b = (if b then 1 else 0) ∷ []
 
 -- 1 and what there is, or 0 for nothing
 abbrev pub maybe : {A : Type 0} → (A → List ℕ) → Option A → List ℕ
-maybe row none = 0 ∷ []
-maybe row (some a) = 1 ∷ row a
+maybe row None = 0 ∷ []
+maybe row (Some a) = 1 ∷ row a
 
 -- place and length
 abbrev pub two_of : Stretch → List ℕ
@@ -109,12 +109,12 @@ minimal_of mode = not (eqb mode 0)
 
 -- what a builder remembers, as a number: an opcode, or 256 for nothing; any larger one is nothing too
 abbrev pub remembered_of : ℕ → Option ℕ
-remembered_of n = if ltb n 256 then some n else none
+remembered_of n = if ltb n 256 then Some n else None
 
 -- and back
 abbrev pub remembered_as : Option ℕ → ℕ
-remembered_as none = 256
-remembered_as (some code) = code
+remembered_as None = 256
+remembered_as (Some code) = code
 
 -- the builder for the next call, and behind it the refusal's values
 unfoldable pub builds : Outcome → List ℕ → Handed ℕ

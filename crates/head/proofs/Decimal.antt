@@ -1,42 +1,38 @@
--- Decimal digits written from the last one on: each goes in front of those that stand at the end of the array. Assumes nothing.
-use mathlib.Core.Path.{◌≡◌, sym, ap, ◌∙◌}
-use mathlib.Core.List.{List, ◌∷◌}
-use Prim.Native.Nat.{ℕ, zero, suc, ◌+◌, ◌-◌, ◌*◌, ◌/◌, ◌%◌, ◌^◌, ◌≤◌, ◌<◌}
+-- The library writes a number of 64 bits in decimal as `decimal` says. Assumes nothing.
+use mathlib.Core.Path.{◌≡◌, refl}
+use mathlib.Core.Bool.{false}
+use mathlib.Core.List.{List, [], ◌∷◌}
+use mathlib.Core.Logic.{⊎_elim}
+use Prim.Native.Nat.{ℕ, zero, suc, ◌+◌, ◌*◌, ◌/◌, ◌%◌, ◌^◌, ◌≤◌, ◌<◌}
 use native.Mathlib.Nat.{pow-suc}
 use native.Mathlib.Omega.{arith}
-use borrow.Author.Tests.{lt-ltb, le-ltb}
-use lib.ListN.{length, drop, set, length-set}
-use lib.Seq.{drop-cons, get_or-set_same, drop-set-lt}
-use Rattle.pool.specs.Text.{digits}
+use borrow.Author.Tests.{lt-ltb, le-ltb, eq-eqb, ne_eqb}
+use Rattle.std.specs.Fmt.{decimal as printed, digits as printed_digits, digits_onto}
+use Rattle.laws.proofs.Test.{lt_or_le}
+use Rattle.pool.specs.Text.{digits, decimal}
 
-set_front : (l : List ℕ) (i x : ℕ) → i < length l → drop i (set l i x) ≡ x ∷ drop (suc i) l
-set_front l i x h =
-    let k : i < length (set l i x) = simp length-set h in
-    rw (drop-cons (set l i x) i 0 k, get_or-set_same l i x 0 h, drop-set-lt (suc i) l i x (omega arith))
+-- a number of two digits or more has digits left
+digits_left : (k n : ℕ) → 10 ≤ n → n < 10 ^ suc k → 0 < k
+digits_left zero n m h = absurd (omega (arith, pow-suc 10 0))
+digits_left (suc k) n m h = omega arith
 
--- a number of two digits or more needs two places
-pub two_places : (at n : ℕ) → n < 10 ^ at → 10 ≤ n → 1 < at
-two_places zero n h k = absurd (omega arith)
-two_places (suc zero) n h k = absurd (omega (arith, pow-suc 10 0))
-two_places (suc (suc at)) n h k = omega arith
+same : (k j n : ℕ) (rest : List ℕ) → k ≤ j → 0 < k → n < 10 ^ k → digits_onto j 10 false n rest ≡ digits k n rest
+unfolding digits
+same zero j n rest l p h = absurd (omega arith)
+same (suc k) zero n rest l p h = absurd (omega arith)
+same (suc k) (suc j) n rest l p h =
+    let e : 10 ^ suc k ≡ 10 ^ k * 10 = pow-suc 10 k in
+    let last : n % 10 < 10 = omega arith in
+    ⊎_elim
+    (λ (s : n < 10).
+    let whole : n % 10 ≡ n = omega arith in
+    rw (eq-eqb (n / 10) 0 (omega arith), lt-ltb (n % 10) 10 last, lt-ltb n 10 s, whole) refl)
+    (λ (m : 10 ≤ n).
+    let more : 0 < k = digits_left k n m h in
+    rw (ne_eqb (n / 10) 0 (λ z. omega arith), lt-ltb (n % 10) 10 last, le-ltb n 10 m)
+    (same k j (n / 10) ((48 + n % 10) ∷ rest) (omega arith) more (omega (arith, e))))
+    (lt_or_le n 10)
 
-pub fewer : (at n : ℕ) → 0 < at → n < 10 ^ at → n / 10 < 10 ^ (at - 1)
-fewer at n p h =
-    let e : 10 ^ at ≡ 10 ^ (at - 1) * 10 = ap (λ k. 10 ^ k) {x = at} {y = suc (at - 1)} (omega arith) ∙ pow-suc 10 (at - 1) in
-    omega (arith, e)
-
-module _ (bytes : List ℕ) (at n : ℕ) (p : 0 < at) (h : at ≤ length bytes) where
-  same_place : suc (at - 1) ≡ at
-  same_place = omega arith
-
-  pub digit_more : 10 ≤ n → digits at n (drop at bytes) ≡ digits (at - 1) (n / 10) (drop (at - 1) (set bytes (at - 1) (48 + n % 10)))
-  unfolding digits
-  digit_more g =
-      rw (set_front bytes (at - 1) (48 + n % 10) (omega arith), same_place)
-      (ap (λ k. digits k n (drop at bytes)) (sym same_place) ∙ rw (le-ltb n 10 g))
-
-  pub digit_last : n < 10 → drop (at - 1) (set bytes (at - 1) (48 + n)) ≡ digits at n (drop at bytes)
-  unfolding digits
-  digit_last l =
-      rw (set_front bytes (at - 1) (48 + n) (omega arith), same_place)
-      (sym (ap (λ k. digits k n (drop at bytes)) (sym same_place) ∙ rw (lt-ltb n 10 l)))
+pub same_decimal : (n : ℕ) → n < 2 ^ 64 → printed n ≡ decimal n
+unfolding decimal printed_digits
+same_decimal n h = same 20 64 n [] (omega arith) (omega arith) (omega arith)

@@ -1,148 +1,130 @@
 // The screen up to the text, made line by line.
-#![tactic(auto)]
+#![tactic(auto, using(crate::proofs::Short::lengths))]
 
-ghost use Rattle.std.specs.Prelude.{◌≡◌, [], ◌∷◌, ◌++◌, ◌+◌, ◌≤◌, length, take, drop};
+ghost use Rattle.std.specs.Prelude.{◌≡◌, List, [], ◌∷◌, ◌++◌, ℕ, ◌+◌, ◌≤◌, length, take};
 ghost use Rattle.pool.specs.Text.{text, decimal};
 ghost use Rattle.templates.specs.Answer.{said_template};
 ghost use Rattle.screen.specs.Screen.{kind_name, line};
-ghost use Rattle.head.specs.Shown.{Shows};
 
+use itoa::Buffer;
+use std::marker::Model;
 use templates::Template;
 
-// A number's decimal digits, at the end of an array.
-#[derive(Clone, Copy)]
-struct Digits {
-    bytes: [u8; 20],
-    start: usize,
-}
-
-// The decimal digits of n.
-fn digits_of(n: u64) -> Digits
-    ensures { (drop result.start result.bytes ≡ decimal n) × (result.start ≤ 20) × (length result.bytes ≡ 20) }
-{
-    let mut bytes = [0u8; 20];
-    let mut at: usize = 20;
-    let mut rest = n;
-    while 10 <= rest {
-        at -= 1;
-        bytes[at] = b'0' + (rest % 10) as u8;
-        rest = rest / 10;
-    }
-    at -= 1;
-    bytes[at] = b'0' + (rest as u8);
-    Digits { bytes, start: at }
-}
-
-// The screen up to the text: the first len bytes, of which there are 121 at most.
-#[derive(Clone, Copy)]
+// The screen up to the text, as far as it is made: the first len bytes of an array, in fixed memory, since nothing here has a heap. What stands behind them is not said, and nobody reads it.
+#[derive(Drop)]
 pub struct Head {
-    pub bytes: [u8; 160],
-    pub len: usize,
+    bytes: [u8; 160],
+    len: usize,
+}
+
+impl Model for Head {
+    ghost Value = { List ℕ };
+
+    ghost view = { λ h. take h.len h.bytes };
+
+    ghost invariant = { λ h. (length h.bytes ≡ 160) × (h.len ≤ 160) };
+}
+
+// What a kind is called.
+fn name_of(kind: Template) -> &'static [u8]
+    ensures { result.now ≡ text (kind_name (said_template kind)) }
+{
+    match kind {
+        Template::P2pkh => b"p2pkh",
+        Template::P2sh => b"p2sh",
+        Template::P2wpkh => b"p2wpkh",
+        Template::P2wsh => b"p2wsh",
+        Template::P2tr => b"p2tr",
+        Template::P2a => b"p2a",
+        Template::Witness => b"witness",
+        Template::P2pk => b"p2pk",
+        Template::Multisig => b"multisig",
+        Template::OpReturn => b"opreturn",
+        Template::Other => b"other",
+    }
 }
 
 impl Head {
-    // The bytes, appended.
-    fn add(self, piece: &[u8]) -> Head
-        requires { (self.len + length piece.now ≤ 160) × (length self.bytes ≡ 160) }
-        ensures { Shows result (take self.len self.bytes ++ piece.now) }
+    // No byte.
+    fn new() -> Head
+        ensures { result ≡ [] }
     {
-        let mut bytes = self.bytes;
-        let len = self.len;
-        let added = copying::copy(piece, &mut bytes[len..]);
         Head {
-            bytes,
-            len: len + added,
+            bytes: [0; 160],
+            len: 0,
         }
+    }
+
+    // The bytes.
+    pub fn as_bytes(&self) -> &[u8]
+        ensures { result.now ≡ self.now }
+    {
+        &self.bytes[..self.len]
+    }
+
+    // The bytes, appended.
+    fn add(mut self, piece: &[u8]) -> Head
+        requires { length self + length piece.now ≤ 160 }
+        ensures { result ≡ self ++ piece.now }
+    {
+        let len = self.len;
+        self.len = len + copying::copy(piece, &mut self.bytes[len..]);
+        self
     }
 
     // The number in decimal, appended.
+    #[tactic(auto, using(crate::proofs::Short::lengths, crate::proofs::Decimal::same_decimal))]
     fn add_number(self, n: u64) -> Head
-        requires { (self.len + 20 ≤ 160) × (length self.bytes ≡ 160) }
-        ensures { Shows result (take self.len self.bytes ++ decimal n) }
+        requires { length self + 20 ≤ 160 }
+        ensures { result ≡ self ++ decimal n }
     {
-        let digits = digits_of(n);
-        let bytes = digits.bytes;
-        let start = digits.start;
-        self.add(&bytes[start..])
-    }
-
-    // The kind's name, appended.
-    fn add_kind(self, kind: Template) -> Head
-        requires { (self.len + 20 ≤ 160) × (length self.bytes ≡ 160) }
-        ensures { Shows result (take self.len self.bytes ++ text (kind_name (said_template kind))) }
-    {
-        match kind {
-            Template::P2pkh => self.add(b"p2pkh"),
-            Template::P2sh => self.add(b"p2sh"),
-            Template::P2wpkh => self.add(b"p2wpkh"),
-            Template::P2wsh => self.add(b"p2wsh"),
-            Template::P2tr => self.add(b"p2tr"),
-            Template::P2a => self.add(b"p2a"),
-            Template::Witness => self.add(b"witness"),
-            Template::P2pk => self.add(b"p2pk"),
-            Template::Multisig => self.add(b"multisig"),
-            Template::OpReturn => self.add(b"opreturn"),
-            Template::Other => self.add(b"other"),
-        }
+        let mut digits = Buffer::new();
+        self.add(digits.format(n).as_bytes())
     }
 
     // A word, a number and a line end, appended.
     fn number_line(self, word: &[u8], n: u64) -> Head
-        requires { (self.len + (length word.now + 21) ≤ 160) × (length self.bytes ≡ 160) }
-        ensures { Shows result (take self.len self.bytes ++ (word.now ++ (decimal n ++ (10 ∷ [])))) × (result.len ≤ self.len + (length word.now + 21)) }
+        requires { length self + (length word.now + 21) ≤ 160 }
+        ensures { result ≡ self ++ (word.now ++ (decimal n ++ (10 ∷ []))) }
     {
-        let named = self.add(word);
-        let numbered = named.add_number(n);
-        numbered.add(b"\n")
+        self.add(word).add_number(n).add(b"\n")
     }
 
     // The line with the script's kind, appended.
     fn kind_line(self, kind: Template) -> Head
-        requires { (self.len + 26 ≤ 160) × (length self.bytes ≡ 160) }
-        ensures { Shows result (take self.len self.bytes ++ line "kind" (text (kind_name (said_template kind)))) × (result.len ≤ self.len + 14) }
+        requires { length self + 14 ≤ 160 }
+        ensures { result ≡ self ++ line "kind" (text (kind_name (said_template kind))) }
     {
-        let named = self.add(b"kind ");
-        let kinded = named.add_kind(kind);
-        kinded.add(b"\n")
+        self.add(b"kind ").add(name_of(kind)).add(b"\n")
     }
 
     // The line with both counts, the accurate one first, appended.
     fn counts_line(self, accurate: u64, legacy: u64) -> Head
-        requires { (self.len + 49 ≤ 160) × (length self.bytes ≡ 160) }
-        ensures { Shows result (take self.len self.bytes ++ line "sigops" (decimal accurate ++ (text " " ++ decimal legacy))) × (result.len ≤ self.len + 49) }
+        requires { length self + 49 ≤ 160 }
+        ensures { result ≡ self ++ line "sigops" (decimal accurate ++ (text " " ++ decimal legacy)) }
     {
-        let named = self.add(b"sigops ");
-        let numbered = named.add_number(accurate);
-        numbered.number_line(b" ", legacy)
+        self.add(b"sigops ")
+            .add_number(accurate)
+            .number_line(b" ", legacy)
     }
 
     // The line with the dust figure, and the word before the text, appended.
     fn last_lines(self, dust: u64) -> Head
-        requires { (self.len + 30 ≤ 160) × (length self.bytes ≡ 160) }
-        ensures { Shows result (take self.len self.bytes ++ (line "dust" (decimal dust) ++ text "asm ")) × (result.len ≤ self.len + 30) }
+        requires { length self + 30 ≤ 160 }
+        ensures { result ≡ self ++ (line "dust" (decimal dust) ++ text "asm ") }
     {
-        let lined = self.number_line(b"dust ", dust);
-        lined.add(b"asm ")
+        self.number_line(b"dust ", dust).add(b"asm ")
     }
 }
 
-// The lines with the script's length and kind.
-fn first_lines(size: u64, kind: Template) -> Head
-    ensures { Shows result (line "length" (decimal size) ++ line "kind" (text (kind_name (said_template kind)))) × (result.len ≤ 42) }
-{
-    let empty = Head {
-        bytes: [0u8; 160],
-        len: 0,
-    };
-    let sized = empty.number_line(b"length ", size);
-    sized.kind_line(kind)
-}
-
-// The screen up to the text: the script's length, its kind, both counts, the dust figure, and the word before the text.
+// The screen up to the text: the script's length, its kind, both counts, the dust figure, and the word before the text; 121 bytes at most.
 pub fn head_lines(size: u64, kind: Template, accurate: u64, legacy: u64, dust: u64) -> Head
-    ensures { Shows result (line "length" (decimal size) ++ line "kind" (text (kind_name (said_template kind))) ++ line "sigops" (decimal accurate ++ (text " " ++ decimal legacy)) ++ (line "dust" (decimal dust) ++ text "asm ")) × (result.len ≤ 121) }
+    ensures bytes { result ≡ line "length" (decimal size) ++ line "kind" (text (kind_name (said_template kind))) ++ line "sigops" (decimal accurate ++ (text " " ++ decimal legacy)) ++ (line "dust" (decimal dust) ++ text "asm ") }
+    ensures short { length result ≤ 121 }
 {
-    let first = first_lines(size, kind);
-    let counted = first.counts_line(accurate, legacy);
-    counted.last_lines(dust)
+    Head::new()
+        .number_line(b"length ", size)
+        .kind_line(kind)
+        .counts_line(accurate, legacy)
+        .last_lines(dust)
 }

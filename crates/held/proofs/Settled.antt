@@ -2,8 +2,7 @@
 use mathlib.Core.Path.{◌≡◌}
 use mathlib.Core.List.{[]}
 use Prim.Native.Nat.{ℕ}
-use Rattle.laws.proofs.Settled.{settled, same_value}
-use Rattle.opcodes.proofs.Same.{same_code}
+use Rattle.laws.proofs.Settled.{same_value}
 use Rattle.builder.specs.declared.Builder.{Builder}
 use Rattle.builder.proofs.Same.{same_builder}
 use Rattle.hand.proofs.Handing.{same_handed}
@@ -12,7 +11,7 @@ use Rattle.held.proofs.remembered_as.Reads as remembered-as
 use Rattle.held.proofs.built.Reads as built
 
 pub builder_of_settled : (κs : _) (a : _) (r t : Builder) (s u : _) → builder-of.Post κs a r s → builder-of.Post κs a t u → r ≡ t
-builder_of_settled κs a r t s u p q = same_builder r t (same_value p.0 q.0) (settled same_code r.remembered t.remembered p.1 q.1)
+builder_of_settled κs a r t s u p q = same_builder r t (same_value p.0 q.0) (same_value p.1 q.1)
 
 pub remembered_as_settled : (κs : _) (a : _) (r t : ℕ) (s u : _) → remembered-as.Post κs a r s → remembered-as.Post κs a t u → r ≡ t
 remembered_as_settled κs a r t s u = same_value

@@ -2,14 +2,13 @@
 #![tactic(auto)]
 
 ghost use Rattle.std.specs.Prelude.{◌≡◌, List, [], ℕ, ◌+◌, length};
-ghost use Rattle.opcodes.specs.Opcode.{said_code};
-ghost use Rattle.layout.specs.Answer.{said_answer};
+ghost use Rattle.refusal.specs.Answer.{said};
 ghost use Rattle.builder.specs.Answer.{said_built};
 ghost use Rattle.hand.specs.Handed.{handed, values_said, builds, remembered_of, remembered_as};
 
-use builder::{Answer, Builder, Built};
+use builder::{Builder, Built};
 use hand::SHORT_VALUES;
-use opcodes::Code;
+use refusal::Refusal;
 
 // The least number of entries that a call takes: the state for the next call, and the one value that a builder's refusal has at most.
 pub const STATE_VALUES: usize = 3;
@@ -19,60 +18,52 @@ const NOTHING: u32 = 256;
 
 // A builder from two numbers.
 pub fn builder_of(used: usize, remembered: u32) -> Builder
-    ensures { (result.length ≡ used) × (said_code result.remembered ≡ remembered_of remembered) }
+    ensures { (result.length ≡ used) × (result.remembered ≡ remembered_of remembered) }
 {
-    if remembered < NOTHING {
-        return Builder {
-            length: used,
-            remembered: Code::Is(remembered as u8),
-        };
-    }
+    let remembered = if remembered < NOTHING {
+        Some(remembered as u8)
+    } else {
+        None
+    };
     Builder {
         length: used,
-        remembered: Code::Nothing,
+        remembered,
     }
 }
 
 // What a builder remembers, as a number.
-pub fn remembered_as(remembered: Code) -> usize
-    ensures { result ≡ remembered_as (said_code remembered) }
+pub fn remembered_as(remembered: Option<u8>) -> usize
+    ensures { result ≡ remembered_as remembered }
 {
-    match remembered {
-        Code::Is(code) => code as usize,
-        Code::Nothing => NOTHING as usize,
-    }
+    remembered.map_or(NOTHING as usize, |code| code as usize)
 }
 
 // How many values an answer leaves: the two of the state, and a refusal's.
-fn needed(answer: Answer) -> usize
-    ensures { result ≡ 2 + length (values_said (λ done. []) (said_answer answer)) }
+fn needed(answer: Result<(), Refusal>) -> usize
+    ensures { result ≡ 2 + length (values_said (λ done. []) (said answer)) }
 {
     match answer {
-        Answer::Done => 2,
-        Answer::Refused(why) => {
-            let value = why.value();
-            2 + value.len()
-        }
+        Ok(()) => 2,
+        Err(why) => 2 + why.value().len(),
     }
 }
 
 // A builder's answer: the state for the next call, and a refusal's values behind it.
+#[tactic(auto, using(hand::proofs::Handing::builds_short, hand::proofs::Handing::builds_lacking, hand::proofs::Handing::builds_done))]
 pub fn built(answer: Built, values: &mut [u64]) -> u32
     ensures { (buffer : List ℕ) → handed result values.new ≡ builds (said_built answer buffer) values.old }
 {
     if values.len() < STATE_VALUES {
         return SHORT_VALUES;
     }
-    let builder = answer.builder;
-    let said = answer.answer;
-    if values.len() < needed(said) {
+    if values.len() < needed(answer.answer) {
         return SHORT_VALUES;
     }
+    let builder = answer.builder;
     values[0] = builder.length as u64;
-    let remembered = builder.remembered;
-    values[1] = remembered_as(remembered) as u64;
-    match said {
-        Answer::Done => 0,
-        Answer::Refused(why) => hand::refusal(why, values, 2),
+    values[1] = remembered_as(builder.remembered) as u64;
+    match answer.answer {
+        Ok(()) => 0,
+        Err(why) => hand::refusal(why, values, 2),
     }
 }

@@ -1,8 +1,7 @@
 // What the other crates say of a script that is within their limit, where nothing is refused.
-ghost use Rattle.std.specs.Prelude.{◌≡◌, true, false, ℕ, ◌≤◌, length};
+ghost use Rattle.std.specs.Prelude.{◌≡◌, ◌↔◌, ◌++◌, true, false, List, ℕ, ◌≤◌, length, drop, IsSome, IfSome};
 ghost use Rattle.laws.specs.Said.{answers};
-ghost use Rattle.refusal.specs.Answer.{said_count};
-ghost use Rattle.refusal.specs.Refusal.{limit};
+ghost use Rattle.refusal.specs.Answer.{said};
 ghost use Rattle.templates.specs.Answer.{said_template};
 ghost use Rattle.templates.specs.Kind.{kind_of};
 ghost use Rattle.counts.specs.Count.{get_sig_op_count};
@@ -10,64 +9,90 @@ ghost use Rattle.dust.specs.Dust.{dust_of};
 ghost use Rattle.asm.specs.Asm.{text_of};
 ghost use Rattle.screen.specs.Screen.{most_shown};
 
-use dust::Dust;
-use refusal::Counted;
-use templates::{Kinded, Template};
+use crate::MAX_INSPECTED;
+use std::marker::Model;
+use templates::Template;
 
-// The kind of a script within the limit.
-pub(crate) fn kind_of(script: &[u8]) -> Template
-    requires { length script.now ≤ limit }
-    ensures { said_template result ≡ kind_of script.now }
-{
-    let kinded = templates::kind(script);
-    match kinded {
-        Kinded::Is(kind) => kind,
-        Kinded::Refused(_) => Template::Other,
+// A script within the inspector's limit, which is within that of every entry.
+#[derive(Drop)]
+pub(crate) struct Inspected<'a> {
+    script: &'a [u8],
+}
+
+impl<'a> Model for Inspected<'a> {
+    ghost Value = { List ℕ };
+
+    ghost view = { λ s. s.script.now };
+
+    ghost invariant = { λ s. length s.script.now ≤ most_shown };
+}
+
+impl<'a> Inspected<'a> {
+    // The script, where it is within the limit.
+    pub(crate) fn new(script: &'a [u8]) -> Option<Inspected<'a>>
+        ensures within { IsSome result ↔ (length script.now ≤ most_shown) }
+        ensures same { IfSome result (λ inspected. inspected ≡ script.now) }
+    {
+        if MAX_INSPECTED < script.len() {
+            return None;
+        }
+        Some(Inspected { script })
     }
-}
 
-// A count that was not refused.
-pub(crate) fn count_in(answer: Counted) -> usize
-    ensures { (n : ℕ) → said_count answer ≡ answers n → result ≡ n }
-{
-    match answer {
-        Counted::Count(n) => n,
-        Counted::Refused(_) => 0,
+    // How many bytes it has.
+    pub(crate) fn len(&self) -> usize
+        ensures { result ≡ length self.now }
+    {
+        self.script.len()
     }
-}
 
-// The dust figure of a script within the limit, at the default rate.
-pub(crate) fn dust_of(script: &[u8]) -> u64
-    requires { length script.now ≤ limit }
-    ensures { result ≡ dust_of script.now }
-{
-    let dust = dust::minimal_non_dust(script);
-    match dust {
-        Dust::Satoshi(n) => n,
-        Dust::Refused(_) => 0,
+    // Its kind.
+    #[tactic(auto, using(crate::proofs::Within::kinded, refusal::proofs::Same::told_by))]
+    pub(crate) fn kind(&self) -> Template
+        ensures { said_template result ≡ kind_of self.now }
+    {
+        templates::kind(self.script).unwrap_or(Template::Other)
     }
-}
 
-// The accurate count of a script within the limit.
-pub(crate) fn accurate_of(script: &[u8]) -> u64
-    requires { length script.now ≤ limit }
-    ensures { result ≡ get_sig_op_count true script.now }
-{
-    count_in(counts::count_sigops(script)) as u64
-}
+    // Its accurate count.
+    #[tactic(auto, using(crate::proofs::Within::counted, refusal::proofs::Same::told))]
+    pub(crate) fn accurate(&self) -> u64
+        ensures { result ≡ get_sig_op_count true self.now }
+    {
+        counts::count_sigops(self.script).unwrap_or(0) as u64
+    }
 
-// The other count.
-pub(crate) fn legacy_of(script: &[u8]) -> u64
-    requires { length script.now ≤ limit }
-    ensures { result ≡ get_sig_op_count false script.now }
-{
-    count_in(counts::count_sigops_legacy(script)) as u64
-}
+    // The other count.
+    #[tactic(auto, using(crate::proofs::Within::counted, refusal::proofs::Same::told))]
+    pub(crate) fn legacy(&self) -> u64
+        ensures { result ≡ get_sig_op_count false self.now }
+    {
+        counts::count_sigops_legacy(self.script).unwrap_or(0) as u64
+    }
 
-// How many bytes the text of a script within the inspector's limit has.
-pub(crate) fn text_len(script: &[u8]) -> usize
-    requires { length script.now ≤ most_shown }
-    ensures { (result ≡ length (text_of script.now)) × (result ≤ 64416) }
-{
-    count_in(text::asm_len(script))
+    // Its dust figure, at the default rate.
+    #[tactic(auto, using(crate::proofs::Within::dusted, refusal::proofs::Same::told))]
+    pub(crate) fn dust(&self) -> u64
+        ensures { result ≡ dust_of self.now }
+    {
+        dust::minimal_non_dust(self.script).unwrap_or(0)
+    }
+
+    // How many bytes its text has.
+    #[tactic(auto, using(crate::proofs::Within::measured, refusal::proofs::Same::told))]
+    pub(crate) fn text_len(&self) -> usize
+        ensures { result ≡ length (text_of self.now) }
+    {
+        text::asm_len(self.script).unwrap_or(0)
+    }
+
+    // Writes its text to the front of a buffer that has room for it, and answers how many bytes it has.
+    #[tactic(auto, using(crate::proofs::Within::texted, refusal::proofs::Same::told))]
+    pub(crate) fn write_text(&self, out: &mut [u8]) -> usize
+        requires { length (text_of self.now) ≤ length out.old }
+        ensures len { result ≡ length (text_of self.now) }
+        ensures left { out.new ≡ text_of self.now ++ drop (length (text_of self.now)) out.old }
+    {
+        text::write_asm(self.script, out).unwrap_or(0)
+    }
 }

@@ -7,12 +7,4 @@ mod store;
 
 pub use choose::{int_opcode, last_opcode, verify_form};
 pub use given::{check, shown_len};
-use refusal::Refusal;
 pub use store::lay;
-
-// Whether a call did what it was asked.
-#[derive(Clone, Copy)]
-pub enum Answer {
-    Done,
-    Refused(Refusal),
-}

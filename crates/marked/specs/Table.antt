@@ -1,7 +1,7 @@
 -- Document 01, 'Marked examples', W1 to W12 and the inspector's, W2, W5 and W6 as document 02's 'Two' amends them: in each line what the definitions compute, and what the
 -- paper says of it. Assumes nothing.
 use Rattle.std.specs.Prelude.{true, false, List, [], ◌∷◌, ◌++◌, map, ℕ, pos, neg_ℤ, replicate}
-use Rattle.std.proofs.Math.Option.{none}
+use Rattle.std.specs.Prelude.{None}
 use Prim.Native.String.{String}
 use Rattle.pool.specs.Text.{text}
 use Rattle.building.specs.Builder.{push_opcode, push_verify}
@@ -40,7 +40,7 @@ W11 = 0x52 ∷ 0xac ∷ 0xae ∷ []
 
 -- opcode 0x87 in a buffer of one byte, verify, and verify again with room for one more
 abbrev pub W12-equal : Outcome
-W12-equal = calls (push_opcode 0x87) 0 none (0x00 ∷ [])
+W12-equal = calls (push_opcode 0x87) 0 None (0x00 ∷ [])
 
 abbrev pub W12-verify : Outcome
 W12-verify = then W12-equal push_verify []

@@ -3,11 +3,11 @@
 
 ghost use Rattle.std.specs.Prelude.{◌≡◌, ◌≤◌, length};
 ghost use Rattle.refusal.specs.Refusal.{limit};
-ghost use Rattle.refusal.specs.Answer.{said_count};
-ghost use Rattle.pool.specs.Pool.{lengths_of_names};
+ghost use Rattle.refusal.specs.Answer.{said};
 ghost use Rattle.asm.specs.Asm.{text_of, asm_len_says};
 
-use refusal::{Counted, MAX_SCRIPT, Refusal};
+use names::NameLengths;
+use refusal::Refusal;
 use size::{data_text_len, opcode_text_len, space_len};
 
 mod size;
@@ -20,9 +20,10 @@ const UNEXPECTED_END_LEN: usize = 16;
 // How many bytes the mark for a cut body has, with the space before it.
 const PUSH_PAST_END_LEN: usize = 16;
 
-// How many bytes the text has. The loop over instructions is left from inside the length step or the hex step where a push is cut.
-fn measure(script: &[u8], lengths: &[u8; 256]) -> usize
-    requires { (length script.now ≤ limit) × (lengths.now ≡ lengths_of_names) }
+// How many bytes the text has. `text` goes over the script a second time and writes: document 01 asks for two passes. The loop over instructions is left from inside the length step or the hex step where a push is cut.
+#[tactic(auto, using(crate::proofs::Measured::start, crate::proofs::Measured::data_few, asm::proofs::Sizes::space_short, asm::proofs::Sizes::opcode_short, asm::proofs::LengthStep::few_after, asm::proofs::LengthStep::none_yet, asm::proofs::LengthStep::whole, asm::proofs::Turn::ends))]
+fn measure(script: &[u8], lengths: &NameLengths) -> usize
+    requires { length script.now ≤ limit }
     ensures { result ≡ length (text_of script.now) }
 {
     let mut n: usize = 0;
@@ -31,15 +32,13 @@ fn measure(script: &[u8], lengths: &[u8; 256]) -> usize
         let code = script[at];
         let k = length_bytes_after(code);
         let mut stated: usize = 0;
-        let mut i = k;
         // The length step, from the last length byte to the first.
-        while 0 < i {
+        for i in (1..=k).rev() {
             if script.len() - at <= i {
                 n += UNEXPECTED_END_LEN;
                 break 'script;
             }
-            stated = stated * 256 + (script[at + i] as usize);
-            i -= 1;
+            stated = stated * 256 + usize::from(script[at + i]);
         }
         let body = at + 1 + k;
         let len = data_len(code, stated);
@@ -56,12 +55,11 @@ fn measure(script: &[u8], lengths: &[u8; 256]) -> usize
 }
 
 // The text's length. Refused with 1 for a script over the limit.
-pub fn asm_len(script: &[u8]) -> Counted
-    ensures { said_count result ≡ asm_len_says script.now }
+#[tactic(auto, unfolding(asm::specs::Asm::asm_len_says))]
+pub fn asm_len(script: &[u8]) -> Result<usize, Refusal>
+    ensures { said result ≡ asm_len_says script.now }
 {
-    if MAX_SCRIPT < script.len() {
-        return Counted::Refused(Refusal::TooLong);
-    }
-    let lengths = pool::name_lengths();
-    Counted::Count(measure(script, &lengths))
+    refusal::check_limit(script)?;
+    let lengths = NameLengths::new();
+    Ok(measure(script, &lengths))
 }

@@ -3,10 +3,10 @@ ghost use Rattle.std.specs.Prelude.{◌≡◌, ◌+◌, ◌*◌, ◌≤◌, ◌<
 ghost use Rattle.std.specs.Prelude.{if◌then◌else◌};
 ghost use Rattle.refusal.specs.Refusal.{limit};
 ghost use Rattle.opcodes.specs.Opcode.{sort_of, length_bytes_after};
-ghost use Rattle.pool.specs.Pool.{lengths_of_names};
 ghost use Rattle.opcodes.specs.Core.{OP_PUSHDATA1};
 ghost use Rattle.asm.specs.Asm.{opcode_text, space_at};
 
+use names::NameLengths;
 use opcodes::Class;
 
 // How many bytes OP_0 has.
@@ -16,11 +16,9 @@ const OP_0_LEN: usize = 4;
 pub fn length_bytes_after(code: u8) -> usize
     ensures { result ≡ length_bytes_after (sort_of code) }
 {
-    let class = opcodes::classify(code);
-    match class {
+    match opcodes::classify(code) {
         Class::Push(form) => opcodes::length_bytes(form),
-        Class::PushNum => 0,
-        Class::Ordinary => 0,
+        Class::PushNum | Class::Ordinary => 0,
     }
 }
 
@@ -36,6 +34,7 @@ pub fn data_len(code: u8, stated: usize) -> usize
 }
 
 // How many bytes stand between the instruction at `at` and the one before it.
+#[tactic(auto, unfolding(asm::specs::Asm::space_at))]
 pub(crate) fn space_len(at: usize) -> usize
     ensures { result ≡ length (space_at at) }
 {
@@ -43,14 +42,14 @@ pub(crate) fn space_len(at: usize) -> usize
 }
 
 // How many bytes an opcode is written in.
-pub(crate) fn opcode_text_len(lengths: &[u8; 256], code: u8) -> usize
-    requires { lengths.now ≡ lengths_of_names }
+#[tactic(auto, unfolding(asm::specs::Asm::opcode_text))]
+pub(crate) fn opcode_text_len(lengths: &NameLengths, code: u8) -> usize
     ensures { result ≡ length (opcode_text code) }
 {
     if code == 0 {
         OP_0_LEN
     } else {
-        names::name_len_in(lengths, code)
+        lengths.len(code)
     }
 }
 

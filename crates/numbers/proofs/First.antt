@@ -1,39 +1,39 @@
--- `cast_to_bool` at the bytes from a place on: it goes by the byte there. Assumes nothing.
-use mathlib.Core.Path.{◌≡◌, refl, ◌∙◌}
+-- `cast_to_bool` by the last byte and those before it. Assumes nothing.
+use mathlib.Core.Path.{◌≡◌, refl}
 use mathlib.Core.Bool.{Bool, true, false, not}
-use mathlib.Core.List.{List}
-use Prim.Native.Nat.{ℕ, suc, ◌+◌, ◌≤◌, ◌<◌}
-use native.Mathlib.Numerals.{add-one}
+use mathlib.Core.List.{List, [], ◌∷◌}
+use Prim.Native.Nat.{ℕ, suc, ◌-◌, ◌<◌, ◌≤◌}
 use native.Mathlib.Omega.{arith}
-use borrow.Author.Tests.{eq-eqb, ne_eqb}
+use borrow.Author.Tests.{ne_eqb}
 use lib.Dec.{eqb}
-use lib.ListN.{length, drop, get_or, length-drop, drop_of_length-le}
-use lib.Seq.{drop-cons}
-use Rattle.std.specs.Prelude.{if◌then◌else◌}
-use Rattle.numbers.specs.ScriptNum.{cast_to_bool}
+use lib.ListN.{length, take}
+use Rattle.std.specs.Prelude.{◌&&◌, ◌||◌, if◌then◌else◌}
+use Rattle.std.specs.List.{list_any}
+use Rattle.numbers.specs.ScriptNum.{cast_to_bool, back}
+use Rattle.numbers.proofs.Reading.{back_cons}
 
-module _ (v : List ℕ) (i : ℕ) where
-  pub none_left : length v ≤ i → cast_to_bool (drop i v) ≡ false
-  unfolding cast_to_bool
-  none_left h = rw (drop_of_length-le v h)
+-- whether a byte is not 0
+abbrev pub is_set : ℕ → Bool
+is_set b = not (eqb b 0)
 
-  module _ (h : i < length v) where
-    pub zero_here : get_or v i 0 ≡ 0 → cast_to_bool (drop i v) ≡ cast_to_bool (drop (i + 1) v)
-    unfolding cast_to_bool
-    zero_here e = rw (drop-cons v i 0 h, eq-eqb (get_or v i 0) 0 e, add-one)
+pub of_none : (v : List ℕ) → length v < 1 → cast_to_bool v ≡ false
+unfolding cast_to_bool
+of_none [] h = refl
+of_none (b ∷ v) h = absurd (omega arith)
 
-    pub set_before_last : (get_or v i 0 ≡ 0 → ⊥) → i + 1 < length v → cast_to_bool (drop i v) ≡ true
-    unfolding cast_to_bool
-    set_before_last e g =
-        let l : length (drop (suc i) v) ≡ 0 → ⊥ = λ z. omega (arith, length-drop (suc i) v) in
-        rw (drop-cons v i 0 h, ne_eqb (get_or v i 0) 0 e, ne_eqb (length (drop (suc i) v)) 0 l)
+one : (z s : Bool) → (if z then false else if s then false else true) ≡ (not z && not s)
+one true s = refl
+one false true = refl
+one false false = refl
 
-    pub set_last : (get_or v i 0 ≡ 0 → ⊥) → length v ≤ i + 1 → cast_to_bool (drop i v) ≡ not (eqb (get_or v i 0) 128)
-    unfolding cast_to_bool
-    set_last e g =
-        let l : length (drop (suc i) v) ≡ 0 = length-drop (suc i) v ∙ omega arith in
-        rw (drop-cons v i 0 h, ne_eqb (get_or v i 0) 0 e, eq-eqb (length (drop (suc i) v)) 0 l) (picks (eqb (get_or v i 0) 128))
-      where
-        picks : (b : Bool) → (if b then false else true) ≡ not b
-        picks true = refl
-        picks false = refl
+more : (z f r s : Bool) → f ≡ (r || s) → (if z then f else true) ≡ ((not z || r) || s)
+more true f r s e = e
+more false f r s e = refl
+
+pub by_last : (v : List ℕ) → 1 ≤ length v → cast_to_bool v ≡ (list_any is_set (take (length v - 1) v) || (is_set (back v) && not (eqb (back v) 128)))
+unfolding cast_to_bool
+by_last [] h = absurd (omega arith)
+by_last (b ∷ []) h = one (eqb b 0) (eqb b 128)
+by_last (b ∷ c ∷ v) h =
+    let l : suc (suc (length v)) - 1 ≡ suc (suc (length v) - 1) = omega arith in
+    rw (ne_eqb (suc (length v)) 0 (omega arith), back_cons, l) (more (eqb b 0) _ _ _ (by_last (c ∷ v) (omega arith)))

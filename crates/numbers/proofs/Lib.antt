@@ -3,9 +3,8 @@ pub mod Reading
 pub mod Written
 pub mod Exact
 pub mod Marked
-pub mod Negated
+pub mod Least
 pub mod Left
 pub mod First
 pub mod Outcome
-pub mod Same
 pub mod Settled

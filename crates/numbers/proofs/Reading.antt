@@ -1,9 +1,9 @@
 -- Core reads by places from the last byte; `Coded` goes byte by byte. What the reader takes has the relation, and from the relation follows
 -- what the reader answers. Assumes nothing.
-use mathlib.Core.Path.{◌≡◌, refl, ◌∙◌}
+use mathlib.Core.Path.{◌≡◌, refl, sym, ap, ◌∙◌}
 use mathlib.Core.Logic.{◌⊎◌, ⊎_elim}
 use mathlib.Core.Bool.{false}
-use mathlib.Core.List.{List, [], ◌∷◌}
+use mathlib.Core.List.{List, [], ◌∷◌, ◌++◌}
 use Prim.Native.Nat.{ℕ, zero, suc, ◌+◌, ◌-◌, ◌*◌, ◌/◌, ◌%◌, ◌^◌, ◌≤◌, ◌<◌}
 use native.Mathlib.Nat.{pow-suc}
 use native.Mathlib.Numerals.{unary_clauses}
@@ -11,8 +11,9 @@ use native.Mathlib.Omega.{arith}
 use borrow.Author.Tests.{lt-ltb, le-ltb, le-leb, lt-leb, ltb-false, eq-eqb, ne_eqb}
 use lib.Dec.{leb}
 use lib.IntN.{pos, neg_ℤ}
-use lib.ListN.{length, get_or, drop, length-drop}
-use lib.Seq.{drop-cons, drop-length, get_or-drop}
+use lib.ListN.{length, drop, length-drop}
+use lib.Seq.{drop-cons, drop-length, get_or-drop, drop-append_seam}
+use Rattle.std.proofs.lemmas.List.{append_assoc}
 use Rattle.std.specs.Prelude.{if◌then◌else◌}
 use Rattle.laws.proofs.Test.{lt_or_le}
 use Rattle.numbers.specs.ScriptNum.{little_endian, back, non_minimal, set_vch}
@@ -67,20 +68,22 @@ set_vch_none v e = rw (eq-eqb (length v) 0 e)
 
 -- ---- the magnitude of the bytes from a place on, as the loop of `scriptint_parse` goes down
 
-magnitude_cons : (b : ℕ) (v : List ℕ) → 0 < length v → magnitude_of (b ∷ v) ≡ b + 256 * magnitude_of v
-magnitude_cons b [] h = absurd (omega arith)
-magnitude_cons b (c ∷ v) h = refl
-
 pub magnitude_last : (v : List ℕ) → 0 < length v → magnitude_of (drop (length v - 1) v) ≡ back v % 128
 magnitude_last v h =
     let e : suc (length v - 1) ≡ length v = omega arith in
     rw (drop-cons v (length v - 1) 0 (omega arith), e, drop-length v)
 
-pub magnitude_step : (v : List ℕ) (i : ℕ) → 0 < i → i < length v → magnitude_of (drop i v) * 256 + get_or v (i - 1) 0 ≡ magnitude_of (drop (i - 1) v)
-magnitude_step v i p h =
-    let e : suc (i - 1) ≡ i = omega arith in
-    let l : 0 < length (drop i v) = simp length-drop (omega arith) in
-    rw (drop-cons v (i - 1) 0 (omega arith), e, magnitude_cons (get_or v (i - 1) 0) (drop i v) l) (omega arith)
+-- v is front and what is behind it, and one byte is taken from the end of front
+pub taken_back : (v front rest : List ℕ) (b : ℕ) → front ++ drop (length front) v ≡ v → front ≡ rest ++ b ∷ []
+    → (rest ++ drop (length rest) v ≡ v) × (drop (length rest) v ≡ b ∷ drop (length front) v)
+taken_back v front rest b e f =
+    let w : rest ++ (b ∷ drop (length front) v) ≡ v = sym (append_assoc rest (b ∷ []) (drop (length front) v)) ∙ ap (λ (u : List ℕ). u ++ drop (length front) v) (sym f) ∙ e in
+    let d : drop (length rest) v ≡ b ∷ drop (length front) v = ap (drop (length rest)) (sym w) ∙ drop-append_seam rest (b ∷ drop (length front) v) in
+    (rw d w, d)
+
+pub magnitude_step : (b : ℕ) (v : List ℕ) → 0 < length v → magnitude_of v * 256 + b ≡ magnitude_of (b ∷ v)
+magnitude_step b [] h = absurd (omega arith)
+magnitude_step b (c ∷ v) h = omega arith
 
 magnitude_below : (k : ℕ) (v : List ℕ) → Bytes v → length v ≤ suc k → magnitude_of v < 128 * 256 ^ k
 magnitude_below zero [] h l = omega arith

@@ -3,15 +3,8 @@ use Rattle.std.specs.Prelude.{Bool, false, List, [], ℕ, suc, ◌^◌, eqb, ℤ
 use Rattle.std.specs.Prelude.{if◌then◌else◌}
 use Rattle.laws.specs.Said.{Said, answers, refuses}
 use Rattle.laws.specs.Buffer.{writes}
-use Rattle.refusal.specs.Refusal.{within_limit, said_refusal}
+use Rattle.refusal.specs.Refusal.{within_limit}
 use Rattle.numbers.specs.ScriptNum.{serialize, cast_to_bool}
-use Rattle.numbers.specs.declared.Number.{Number}
-use Rattle.numbers.specs.declared.Number.TheVariants.{Value, Refused}
-
--- what the readers' answers say
-abbrev pub said_number : Number → Said ℤ
-said_number (Value n) = answers n
-said_number (Refused r) = said_refusal r
 
 -- -2^63, which refusal 6 names; `negsuc n` is -(n + 1)
 abbrev pub is_least : ℤ → Bool

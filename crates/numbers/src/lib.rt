@@ -5,15 +5,7 @@ mod read;
 mod write;
 
 pub use read::{read_scriptbool, read_scriptint, read_scriptint_non_minimal};
-use refusal::Refusal;
 pub use write::{scriptint_len, write_scriptint};
 
 // The sign of a script number: the top bit of its last byte.
 pub(crate) const SIGN_BIT: u8 = 0x80;
-
-// A number that was read.
-#[derive(Clone, Copy)]
-pub enum Number {
-    Value(i64),
-    Refused(Refusal),
-}

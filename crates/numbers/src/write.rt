@@ -1,21 +1,13 @@
 // How many bytes a number takes, and its bytes written into a lent buffer.
-ghost use Rattle.std.specs.Prelude.{◌≡◌, false, ◌++◌, ◌<◌, ◌≤◌, ℤ, nat_abs, length, drop};
+ghost use Rattle.std.specs.Prelude.{◌≡◌, false, ℤ, nat_abs, length};
 ghost use Rattle.std.specs.Prelude.{if◌then◌else◌};
 ghost use Rattle.laws.specs.Buffer.{after};
-ghost use Rattle.refusal.specs.Answer.{said_count};
-ghost use Rattle.numbers.specs.ScriptNum.{low_bytes, close_sign, serialize};
+ghost use Rattle.refusal.specs.Answer.{said};
+ghost use Rattle.numbers.specs.ScriptNum.{serialize};
 ghost use Rattle.numbers.specs.Answer.{is_least, len_says, write_says};
 
 use crate::SIGN_BIT;
-use refusal::{Counted, Refusal};
-
-// The size of n without its sign, for every n but -2^63.
-fn magnitude(n: i64) -> u64
-    requires { is_least n ≡ false }
-    ensures { result ≡ nat_abs n }
-{
-    if n < 0 { (-n) as u64 } else { n as u64 }
-}
+use refusal::Refusal;
 
 // The sign as it stands in the last byte.
 fn sign_bit(negative: bool) -> u8
@@ -25,54 +17,54 @@ fn sign_bit(negative: bool) -> u8
 }
 
 // How many bytes a number of size m takes, with either sign: none for 0, else its bits and one for the sign, rounded up to whole bytes.
+#[tactic(auto, using(crate::proofs::Written::serialize_count, crate::proofs::Written::serialize_empty))]
 fn byte_count(m: u64) -> usize
     ensures { (n : ℤ) → nat_abs n ≡ m → result ≡ length (serialize n) }
 {
     if m == 0 {
         return 0;
     }
-    let bits = 64 - u64::leading_zeros(m);
+    let bits = u64::BITS - m.leading_zeros();
     (bits / 8 + 1) as usize
 }
 
 // How many bytes `write_scriptint` needs for n; -2^63 is refused.
-pub fn scriptint_len(n: i64) -> Counted
-    ensures { said_count result ≡ len_says n }
+#[tactic(auto, unfolding(crate::specs::Answer::len_says))]
+pub fn scriptint_len(n: i64) -> Result<usize, Refusal>
+    ensures { said result ≡ len_says n }
 {
     if n == i64::MIN {
-        return Counted::Refused(Refusal::NumberOutOfRange);
+        return Err(Refusal::NumberOutOfRange);
     }
-    Counted::Count(byte_count(magnitude(n)))
+    Ok(byte_count(n.unsigned_abs()))
 }
 
-// Writes a number of size m, which is not 0, at the front of out, low byte first.
-fn put(m: u64, negative: bool, out: &mut [u8])
-    requires { (0 < m) × (length (close_sign negative (low_bytes m m)) ≤ length out.old) }
-    ensures { out.new ≡ close_sign negative (low_bytes m m) ++ drop (length (close_sign negative (low_bytes m m))) out.old }
+// Writes n over the whole of out, which is as long as n needs, low byte first and the sign in the last.
+fn put(n: i64, out: &mut [u8])
+    requires { (is_least n ≡ false) × (length out.old ≡ length (serialize n)) }
+    ensures { out.new ≡ serialize n }
 {
-    let mut rest = m;
-    let mut i = 0;
-    while 128 <= rest {
-        out[i] = (rest % 256) as u8;
-        rest = rest / 256;
-        i += 1;
+    let Some((last, low)) = out.split_last_mut() else {
+        return;
+    };
+    let mut rest = n.unsigned_abs();
+    for b in low {
+        *b = (rest % 256) as u8;
+        rest /= 256;
     }
-    out[i] = (rest as u8) + sign_bit(negative);
+    *last = rest as u8 + sign_bit(n < 0);
 }
 
 // Writes n at the front of out and answers the count of bytes; refuses -2^63, and an out that is too short.
-pub fn write_scriptint(n: i64, out: &mut [u8]) -> Counted
-    ensures answer { said_count result ≡ write_says n (length out.old) }
+#[tactic(auto, unfolding(crate::specs::Answer::len_says, crate::specs::Answer::write_says))]
+pub fn write_scriptint(n: i64, out: &mut [u8]) -> Result<usize, Refusal>
+    ensures answer { said result ≡ write_says n (length out.old) }
     ensures left { out.new ≡ after (write_says n (length out.old)) (serialize n) out.old }
 {
-    let Counted::Count(count) = scriptint_len(n) else {
-        return Counted::Refused(Refusal::NumberOutOfRange);
-    };
+    let count = scriptint_len(n)?;
     if out.len() < count {
-        return Counted::Refused(Refusal::NoRoom(count));
+        return Err(Refusal::NoRoom(count));
     }
-    if 0 < count {
-        put(magnitude(n), n < 0, out);
-    }
-    Counted::Count(count)
+    put(n, &mut out[..count]);
+    Ok(count)
 }

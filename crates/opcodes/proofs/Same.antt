@@ -12,14 +12,11 @@ use Rattle.opcodes.specs.Opcode.{
   plain,
   said_form,
   said_class,
-  said_code,
 }
 use Rattle.opcodes.specs.declared.Form.{Form}
 use Rattle.opcodes.specs.declared.Form.TheVariants.{Direct, PushData1, PushData2, PushData4}
 use Rattle.opcodes.specs.declared.Class.{Class}
 use Rattle.opcodes.specs.declared.Class.TheVariants.{Push, PushNum, Ordinary}
-use Rattle.opcodes.specs.declared.Code.{Code}
-use Rattle.opcodes.specs.declared.Code.TheVariants.{Is, Nothing}
 
 -- the answer that is said
 abbrev form_of : PushForm → Form
@@ -49,9 +46,3 @@ same_form a b e = sym (form_back a) ∙ ap form_of e ∙ form_back b
 
 pub same_class : (a b : Class) → said_class a ≡ said_class b → a ≡ b
 same_class a b e = sym (class_back a) ∙ ap class_of e ∙ class_back b
-
-pub same_code : (a b : Code) → said_code a ≡ said_code b → a ≡ b
-same_code (Is n) (Is m) e = cc
-same_code (Is n) Nothing e = cc
-same_code Nothing (Is m) e = cc
-same_code Nothing Nothing e = refl

@@ -1,13 +1,11 @@
 -- Opcode bytes, from document 01, 'Opcodes'. Assumes nothing.
-use Rattle.std.proofs.Math.Option.{Option, none, some}
+use Rattle.std.specs.Prelude.{Option, None, Some}
 use Rattle.std.specs.Prelude.{ℕ, ◌-◌, ltb, eqb}
 use Rattle.std.specs.Prelude.{if◌then◌else◌}
 use Rattle.opcodes.specs.declared.Form.{Form}
 use Rattle.opcodes.specs.declared.Form.TheVariants.{Direct, PushData1, PushData2, PushData4}
 use Rattle.opcodes.specs.declared.Class.{Class}
 use Rattle.opcodes.specs.declared.Class.TheVariants.{Push, PushNum, Ordinary}
-use Rattle.opcodes.specs.declared.Code.{Code}
-use Rattle.opcodes.specs.declared.Code.TheVariants.{Is, Nothing}
 
 -- how a push states its length: in the opcode itself, or in the length bytes of OP_PUSHDATA1, 2, 4
 pub data PushForm : Type 0 where
@@ -48,16 +46,16 @@ length_bytes_after plain = 0
 
 -- 0x51 to 0x60 carry numbers 1 to 16
 abbrev pub pushnum_of : ℕ → Option ℕ
-pushnum_of code = if ltb code 0x51 then none else if ltb code 0x61 then some (code - 0x50) else none
+pushnum_of code = if ltb code 0x51 then None else if ltb code 0x61 then Some (code - 0x50) else None
 
 -- verify forms: 0x87 to 0x88, 0x9c to 0x9d, 0xac to 0xad, 0xae to 0xaf
 abbrev pub verify_of : ℕ → Option ℕ
 verify_of code =
-    if eqb code 0x87 then some 0x88
-    else if eqb code 0x9c then some 0x9d
-    else if eqb code 0xac then some 0xad
-    else if eqb code 0xae then some 0xaf
-    else none
+    if eqb code 0x87 then Some 0x88
+    else if eqb code 0x9c then Some 0x9d
+    else if eqb code 0xac then Some 0xad
+    else if eqb code 0xae then Some 0xaf
+    else None
 
 -- what the code's answers say
 abbrev pub said_form : Form → PushForm
@@ -70,7 +68,3 @@ abbrev pub said_class : Class → Sort
 said_class (Push form) = push (said_form form)
 said_class PushNum = number
 said_class Ordinary = plain
-
-abbrev pub said_code : Code → Option ℕ
-said_code (Is n) = some n
-said_code Nothing = none

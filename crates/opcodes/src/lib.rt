@@ -2,7 +2,7 @@
 #![tactic(auto)]
 
 ghost use Rattle.std.specs.Prelude.{◌≡◌};
-ghost use Rattle.opcodes.specs.Opcode.{sort_of, length_bytes, said_class, said_form, pushnum_of, verify_of, said_code};
+ghost use Rattle.opcodes.specs.Opcode.{sort_of, length_bytes, said_class, said_form, pushnum_of, verify_of};
 
 pub const OP_0: u8 = 0x00;
 
@@ -45,7 +45,7 @@ pub const OP_CHECKMULTISIGVERIFY: u8 = 0xaf;
 pub const OP_INVALIDOPCODE: u8 = 0xff;
 
 // How a push states the length of its body: in the opcode itself, or in 1, 2 or 4 length bytes after it.
-#[derive(Clone, Copy)]
+#[derive(Clone, Copy, Debug, PartialEq, Eq)]
 pub enum Form {
     Direct,
     PushData1,
@@ -54,18 +54,11 @@ pub enum Form {
 }
 
 // What sort of instruction an opcode byte starts.
-#[derive(Clone, Copy)]
+#[derive(Clone, Copy, Debug, PartialEq, Eq)]
 pub enum Class {
     Push(Form),
     PushNum,
     Ordinary,
-}
-
-// An opcode byte or a number, or nothing.
-#[derive(Clone, Copy)]
-pub enum Code {
-    Is(u8),
-    Nothing,
 }
 
 // The class of an opcode byte.
@@ -95,24 +88,24 @@ pub fn length_bytes(form: Form) -> usize
 }
 
 // The number, 1 to 16, that a number opcode carries.
-pub fn decode_pushnum(code: u8) -> Code
-    ensures { said_code result ≡ pushnum_of code }
+pub fn decode_pushnum(code: u8) -> Option<u8>
+    ensures { result ≡ pushnum_of code }
 {
     match code {
-        OP_PUSHNUM_1..=OP_PUSHNUM_16 => Code::Is(code - (OP_PUSHNUM_1 - 1)),
-        _ => Code::Nothing,
+        OP_PUSHNUM_1..=OP_PUSHNUM_16 => Some(code - (OP_PUSHNUM_1 - 1)),
+        _ => None,
     }
 }
 
 // The opcode that does the same and then verifies, where there is one.
-pub fn opcode_to_verify(code: u8) -> Code
-    ensures { said_code result ≡ verify_of code }
+pub fn opcode_to_verify(code: u8) -> Option<u8>
+    ensures { result ≡ verify_of code }
 {
     match code {
-        OP_EQUAL => Code::Is(OP_EQUALVERIFY),
-        OP_NUMEQUAL => Code::Is(OP_NUMEQUALVERIFY),
-        OP_CHECKSIG => Code::Is(OP_CHECKSIGVERIFY),
-        OP_CHECKMULTISIG => Code::Is(OP_CHECKMULTISIGVERIFY),
-        _ => Code::Nothing,
+        OP_EQUAL => Some(OP_EQUALVERIFY),
+        OP_NUMEQUAL => Some(OP_NUMEQUALVERIFY),
+        OP_CHECKSIG => Some(OP_CHECKSIGVERIFY),
+        OP_CHECKMULTISIG => Some(OP_CHECKMULTISIGVERIFY),
+        _ => None,
     }
 }

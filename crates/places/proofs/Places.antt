@@ -2,10 +2,10 @@
 use mathlib.Core.Path.{◌≡◌, refl, ap, ◌∙◌}
 use mathlib.Core.Bool.{Bool}
 use mathlib.Core.List.{List, [], ◌∷◌, map}
-use Prim.Native.Nat.{ℕ, suc, ◌+◌, ◌≤◌, ◌<◌}
+use Prim.Native.Nat.{ℕ, suc, ◌+◌, ◌≤◌}
 use native.Mathlib.Nat.{zero-add}
 use native.Mathlib.Omega.{arith}
-use borrow.Author.Tests.{le-leb, lt-leb}
+use borrow.Author.Tests.{le-leb}
 use lib.ListN.{length}
 use lib.Seq.{sets, sets-eq}
 use Rattle.laws.specs.Said.{Said, answers, refuses, unless}
@@ -31,7 +31,7 @@ pub counted : (minimal : Bool) (s : List ℕ) {n : ℕ} {a : Said Walked} → (l
 unfolding place_count_says places_of
 counted minimal s e = rw (length_places, e.0, e.1)
 
--- ---- the answers of `positions`, by what the count was
+-- ---- the answer of `positions`, where the walk is not refused and the table has room
 
 module _ (minimal : Bool) (s old : List ℕ) where
   abbrev ps : List ℕ
@@ -39,17 +39,6 @@ module _ (minimal : Bool) (s old : List ℕ) where
 
   abbrev says : Said ℕ
   says = positions_say minimal s (length old)
-
-  -- the walk was refused
-  pub places_refused : {number : ℕ} {values : List ℕ} → refuses number values ≡ place_count_says minimal s
-      → (refuses number values ≡ says) × (old ≡ after says ps old)
-  unfolding place_count_says positions_say
-  places_refused {number} {values} e = go (ending (walk_from minimal s 0)) e
-    where
-      go : (a : Said Walked) → refuses number values ≡ unless a (answers (length ps))
-          → (refuses number values ≡ unless a (writes ps (length old))) × (old ≡ after (unless a (writes ps (length old))) ps old)
-      go (answers w) e = (cc, cc)
-      go (refuses number values) e = (e, refl)
 
   module _ {n : ℕ} (e : answers n ≡ place_count_says minimal s) where
     counts : (length ps ≡ n) × (says ≡ writes ps (length old))
@@ -59,13 +48,6 @@ module _ (minimal : Bool) (s old : List ℕ) where
         go : (a : Said Walked) → answers n ≡ unless a (answers (length ps)) → (length ps ≡ n) × (unless a (writes ps (length old)) ≡ writes ps (length old))
         go (answers w) e = (cc, refl)
         go (refuses number values) e = (cc, cc)
-
-    pub places_fit : n ≤ length old → length ps ≤ length old
-    places_fit h = omega (arith, counts.0)
-
-    -- the table is short
-    pub places_short : length old < n → (refuses 7 (n ∷ []) ≡ says) × (old ≡ after says ps old)
-    places_short h = rw (counts.1, counts.0, lt-leb n (length old) h) (refl, refl)
 
     -- all are written
     pub places_written : {new : List ℕ} → n ≤ length old → new ≡ sets old 0 ps → (answers n ≡ says) × (new ≡ after says ps old)

@@ -37,7 +37,7 @@ OP_RETURN_235OP_RETURN_236OP_RETURN_237OP_RETURN_238OP_RETURN_239OP_RETURN_240OP
 OP_RETURN_243OP_RETURN_244OP_RETURN_245OP_RETURN_246OP_RETURN_247OP_RETURN_248OP_RETURN_249OP_RETURN_250\
 OP_RETURN_251OP_RETURN_252OP_RETURN_253OP_RETURN_254OP_INVALIDOPCODE";
 
-// Where each name starts in the pool.
+// Where each name starts in the pool. Starts and lengths stand beside the pool, and no table of texts in their place: document 01 names this form.
 const NAME_STARTS: [u16; 256] = [
     0, 14, 28, 42, 56, 70, 84, 98, 112, 126, 140, 155, 170, 185, 200, 215, 230, 245, 260, 275, 290,
     305, 320, 335, 350, 365, 380, 395, 410, 425, 440, 455, 470, 485, 500, 515, 530, 545, 560, 575,

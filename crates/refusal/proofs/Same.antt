@@ -4,9 +4,11 @@ use mathlib.Core.List.{List, [], ◌∷◌}
 use Prim.Native.Nat.{ℕ}
 use lib.Dec.{eqb}
 use lib.ListN.{get_or}
-use Rattle.std.specs.Prelude.{if◌then◌else◌}
+use Rattle.std.specs.Prelude.{if◌then◌else◌, Result, Ok, Err}
 use Rattle.refusal.specs.Refusal.{number_of, values_of, said_refusal}
-use Rattle.refusal.specs.Answer.{said_value, said_count, said_judged}
+use Rattle.laws.specs.Said.{answers}
+use Rattle.std.specs.Result.{result_unwrap_or}
+use Rattle.refusal.specs.Answer.{said_value, said, said_by}
 use Rattle.refusal.specs.declared.Value.{Value}
 use Rattle.refusal.specs.declared.Value.TheVariants.{Is, Both, Nothing}
 use Rattle.refusal.specs.declared.Refusal.{Refusal}
@@ -26,10 +28,6 @@ use Rattle.refusal.specs.declared.Refusal.TheVariants.{
   LengthCut,
   BodyCut,
 }
-use Rattle.refusal.specs.declared.Counted.{Counted}
-use Rattle.refusal.specs.declared.Counted.TheVariants.{Count, Refused}
-use Rattle.refusal.specs.declared.Judged.{Judged}
-use Rattle.refusal.specs.declared.Judged.TheVariants as judged
 
 -- the refusal that a number and its values name
 abbrev named : ℕ → List ℕ → Refusal
@@ -83,14 +81,24 @@ same_said Nothing (Is m) e = cc
 same_said Nothing (Both m q) e = cc
 same_said Nothing Nothing e = refl
 
-pub same_count : (a b : Counted) → said_count a ≡ said_count b → a ≡ b
-same_count (Count n) (Count m) e = cc
-same_count (Count n) (Refused t) e = cc
-same_count (Refused r) (Count m) e = cc
-same_count (Refused r) (Refused t) e = ap Refused (same_refusal r t e)
+-- .. and so are two answers, where what is told of them is
+pub same_by : {A B : Type 0} (f : A → B) → ((x y : A) → f x ≡ f y → x ≡ y) → (a b : Result A Refusal) → said_by f a ≡ said_by f b → a ≡ b
+same_by f same (Ok x) (Ok y) e = ap Ok (same x y (cc))
+same_by f same (Ok x) (Err t) e = cc
+same_by f same (Err r) (Ok y) e = cc
+same_by f same (Err r) (Err t) e = ap Err (same_refusal r t e)
 
-pub same_judged : (a b : Judged) → said_judged a ≡ said_judged b → a ≡ b
-same_judged (judged.Answer x) (judged.Answer y) e = cc
-same_judged (judged.Answer x) (judged.Refused t) e = cc
-same_judged (judged.Refused r) (judged.Answer y) e = cc
-same_judged (judged.Refused r) (judged.Refused t) e = ap judged.Refused (same_refusal r t e)
+pub same_answer : {A : Type 0} (a b : Result A Refusal) → said a ≡ said b → a ≡ b
+same_answer (Ok x) (Ok y) e = cc
+same_answer (Ok x) (Err t) e = cc
+same_answer (Err r) (Ok y) e = cc
+same_answer (Err r) (Err t) e = ap Err (same_refusal r t e)
+
+-- an answer that is known is the one that is handed out, whatever stands in for a refusal
+pub told_by : {A B : Type 0} (f : A → B) (r : Result A Refusal) (d : A) {x : B} → said_by f r ≡ answers x → f (result_unwrap_or r d) ≡ x
+told_by f (Ok a) d e = cc
+told_by f (Err r) d e = cc
+
+pub told : {A : Type 0} (r : Result A Refusal) (d : A) {x : A} → said r ≡ answers x → result_unwrap_or r d ≡ x
+told (Ok a) d e = cc
+told (Err r) d e = cc

@@ -1,5 +1,9 @@
 -- Each entry is settled: two outcomes that its contract permits for one input are equal. Assumes nothing.
-use mathlib.Core.Path.{◌≡◌, sym, ◌∙◌}
+use mathlib.Core.Path.{◌≡◌, refl, sym, ap, ◌∙◌}
+use native.Mathlib.Omega.{arith}
+use Rattle.std.specs.Prelude.{Result, Ok, Err}
+use Rattle.refusal.specs.declared.Refusal.{Refusal}
+use Rattle.refusal.proofs.check_limit.Reads as check-limit
 use Prim.Native.Nat.{ℕ}
 use Rattle.laws.proofs.Settled.{same_value}
 use Rattle.refusal.specs.declared.Value.{Value}
@@ -16,3 +20,9 @@ value_settled κs a r t s u p q = same_said r t (p ∙ sym q)
 
 pub len_settled : (κs : _) (a : _) (r t : ℕ) (s u : _) → len.Post κs a r s → len.Post κs a t u → r ≡ t
 len_settled κs a r t s u p q = same_value p q
+
+pub check_limit_settled : (κs : _) (a : _) (r t : Result (Unit {0}) Refusal) (s u : _) → check-limit.Post κs a r s → check-limit.Post κs a t u → r ≡ t
+check_limit_settled κs a (Ok x) (Ok y) s u p q = refl
+check_limit_settled κs a (Ok x) (Err t) s u p q = absurd (omega (arith, p.0, q.1.1))
+check_limit_settled κs a (Err r) (Ok y) s u p q = absurd (omega (arith, q.0, p.1.1))
+check_limit_settled κs a (Err r) (Err t) s u p q = ap Err (p.1.0 ∙ sym q.1.0)

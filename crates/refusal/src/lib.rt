@@ -1,12 +1,13 @@
-// The refusals of document 01 as document 02 amends them, and the two answers that most entries give.
+// The refusals of document 01 as document 02 amends them: the errors that the entries answer.
 #![tactic(auto)]
 
-ghost use Rattle.std.specs.Prelude.{◌≡◌, length};
-ghost use Rattle.refusal.specs.Refusal.{number_of, values_of};
+ghost use Rattle.std.specs.Prelude.{◌≡◌, ◌≤◌, ◌<◌, length, OnOk, IfErr};
+ghost use Rattle.refusal.specs.declared.Refusal.TheVariants.{TooLong};
+ghost use Rattle.refusal.specs.Refusal.{number_of, values_of, limit};
 ghost use Rattle.refusal.specs.Answer.{said_value};
 
 // One variant for each line of document 01's table as document 02 amends it, holding that line's values. Number 3 is retired: 14 and 15 are in its place.
-#[derive(Clone, Copy)]
+#[derive(Clone, Copy, Debug, PartialEq, Eq)]
 pub enum Refusal {
     // 1: an input or a built script is longer than MAX_SCRIPT bytes.
     TooLong,
@@ -38,8 +39,8 @@ pub enum Refusal {
     BodyCut(usize, usize),
 }
 
-// What stands beside a refusal's number: one value, two, or nothing.
-#[derive(Clone, Copy)]
+// What stands beside a refusal's number: one value, two, or nothing. An own enum, since no library type has these three shapes and takes no memory.
+#[derive(Clone, Copy, Debug, PartialEq, Eq)]
 pub enum Value {
     Is(usize),
     Both(usize, usize),
@@ -48,6 +49,17 @@ pub enum Value {
 
 // The longest script that is taken, in bytes.
 pub const MAX_SCRIPT: usize = 4_194_304;
+
+// Refuses bytes over the limit, with 1.
+pub fn check_limit(bytes: &[u8]) -> Result<(), Refusal>
+    ensures within { OnOk result (length bytes.now ≤ limit) }
+    ensures over { IfErr result (λ why. (why ≡ TooLong) × (limit < length bytes.now)) }
+{
+    if MAX_SCRIPT < bytes.len() {
+        return Err(Refusal::TooLong);
+    }
+    Ok(())
+}
 
 impl Refusal {
     // The refusal's number.
@@ -77,20 +89,11 @@ impl Refusal {
         ensures { said_value result ≡ values_of self }
     {
         match self {
-            Refusal::TooLong => Value::Nothing,
-            Refusal::NonMinimal(place) => Value::Is(place),
-            Refusal::NumberTooLong => Value::Nothing,
-            Refusal::NumberNotMinimal => Value::Nothing,
-            Refusal::NumberOutOfRange => Value::Nothing,
-            Refusal::NoRoom(needed) => Value::Is(needed),
-            Refusal::BadCursor => Value::Nothing,
-            Refusal::FeeTooLarge => Value::Nothing,
-            Refusal::ProgramLength => Value::Nothing,
-            Refusal::ProgramLengthV0 => Value::Nothing,
-            Refusal::BadVersion => Value::Nothing,
-            Refusal::BadBuilder => Value::Nothing,
-            Refusal::LengthCut(place, missing) => Value::Both(place, missing),
-            Refusal::BodyCut(place, missing) => Value::Both(place, missing),
+            Refusal::NonMinimal(value) | Refusal::NoRoom(value) => Value::Is(value),
+            Refusal::LengthCut(place, missing) | Refusal::BodyCut(place, missing) => {
+                Value::Both(place, missing)
+            }
+            _ => Value::Nothing,
         }
     }
 }
@@ -106,18 +109,4 @@ impl Value {
             Value::Nothing => 0,
         }
     }
-}
-
-// A count: of bytes or entries that were written, of bytes that would be, of signature operations.
-#[derive(Clone, Copy)]
-pub enum Counted {
-    Count(usize),
-    Refused(Refusal),
-}
-
-// Yes or no.
-#[derive(Clone, Copy)]
-pub enum Judged {
-    Answer(bool),
-    Refused(Refusal),
 }

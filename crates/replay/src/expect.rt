@@ -1,81 +1,112 @@
-// Answers against the bytes that the file has for them: 0 or the refusal's number first, and then the values. Each function is given where to go
-// on in the wanted bytes and answers where the next goes on, or MISS where the bytes are others. An answer agrees if the last function stops at
-// the end of the wanted bytes.
+// Answers against the bytes that the file has for them: 0 or the refusal's number first, and then the values. Each function is given the wanted bytes
+// that are left and answers which of them the next is given, or None where the bytes are others. An answer agrees if nothing is left in the end.
 use crate::file;
-use opcodes::Code;
-use refusal::{Counted, Judged, Refusal, Value};
+use refusal::{Refusal, Value};
+use templates::Place;
 
-// No place: nothing agrees from there on.
-pub(crate) const MISS: usize = usize::MAX;
-
-pub(crate) fn number(want: &[u8], at: usize, n: u64) -> usize {
-    let r = file::number(want, at);
-    if r.whole {
-        if r.value == n {
-            return r.next;
-        }
-    }
-    MISS
+pub(crate) fn number(want: &[u8], n: u64) -> Option<&[u8]> {
+    let (value, rest) = file::number(want)?;
+    if value == n { Some(rest) } else { None }
 }
 
-pub(crate) fn size(want: &[u8], at: usize, n: usize) -> usize {
-    number(want, at, n as u64)
+pub(crate) fn size(want: &[u8], n: usize) -> Option<&[u8]> {
+    number(want, n as u64)
 }
 
-pub(crate) fn flag(want: &[u8], at: usize, yes: bool) -> usize {
-    number(want, at, yes as u64)
+pub(crate) fn flag(want: &[u8], yes: bool) -> Option<&[u8]> {
+    number(want, u64::from(yes))
 }
 
-pub(crate) fn bytes(want: &[u8], at: usize, s: &[u8]) -> usize {
-    let r = file::behind(want, at, s.len());
-    if r.whole {
-        if file::same(file::part(want, at, s.len()), s) {
-            return r.next;
-        }
-    }
-    MISS
+pub(crate) fn bytes<'a>(want: &'a [u8], s: &[u8]) -> Option<&'a [u8]> {
+    want.strip_prefix(s)
 }
 
 // That there is an answer, and that it is one number.
-pub(crate) fn value(want: &[u8], n: u64) -> usize {
-    let at = number(want, 0, 0);
-    number(want, at, n)
+pub(crate) fn value(want: &[u8], n: u64) -> Option<&[u8]> {
+    number(number(want, 0)?, n)
 }
 
 // The refusal's number, and then its values.
-pub(crate) fn refused(want: &[u8], at: usize, r: Refusal) -> usize {
-    let next = number(want, at, r.number() as u64);
-    let beside = r.value();
-    match beside {
-        Value::Is(n) => size(want, next, n),
-        Value::Both(n, m) => size(want, size(want, next, n), m),
-        Value::Nothing => next,
+pub(crate) fn refused(want: &[u8], r: Refusal) -> Option<&[u8]> {
+    let rest = number(want, u64::from(r.number()))?;
+    match r.value() {
+        Value::Is(n) => size(rest, n),
+        Value::Both(n, m) => size(size(rest, n)?, m),
+        Value::Nothing => Some(rest),
     }
 }
 
-pub(crate) fn counted(want: &[u8], answer: Counted) -> usize {
+// What an entry answers, as it stands in the file.
+pub(crate) trait Recorded: Drop {
+    fn follows(self, want: &[u8]) -> Option<&[u8]>;
+}
+
+// The answer, or the refusal.
+pub(crate) fn answer<T: Recorded>(want: &[u8], answer: Result<T, Refusal>) -> Option<&[u8]> {
     match answer {
-        Counted::Count(count) => value(want, count as u64),
-        Counted::Refused(r) => refused(want, 0, r),
+        Ok(said) => said.follows(number(want, 0)?),
+        Err(r) => refused(want, r),
     }
 }
 
 // The count or the refusal, and all of the lent buffer.
-pub(crate) fn written(want: &[u8], answer: Counted, out: &[u8]) -> usize {
-    bytes(want, counted(want, answer), out)
+pub(crate) fn written<'a, T: Recorded>(
+    want: &'a [u8],
+    said: Result<T, Refusal>,
+    out: &[u8],
+) -> Option<&'a [u8]> {
+    bytes(answer(want, said)?, out)
 }
 
-pub(crate) fn judged(want: &[u8], answer: Judged) -> usize {
-    match answer {
-        Judged::Answer(yes) => value(want, yes as u64),
-        Judged::Refused(r) => refused(want, 0, r),
+impl Recorded for () {
+    fn follows(self, want: &[u8]) -> Option<&[u8]> {
+        Some(want)
     }
 }
 
-// A byte, or nothing.
-pub(crate) fn code(want: &[u8], at: usize, answer: Code) -> usize {
-    match answer {
-        Code::Is(b) => number(want, number(want, at, 1), b as u64),
-        Code::Nothing => number(want, at, 0),
+impl Recorded for bool {
+    fn follows(self, want: &[u8]) -> Option<&[u8]> {
+        flag(want, self)
+    }
+}
+
+impl Recorded for u8 {
+    fn follows(self, want: &[u8]) -> Option<&[u8]> {
+        number(want, u64::from(self))
+    }
+}
+
+impl Recorded for u64 {
+    fn follows(self, want: &[u8]) -> Option<&[u8]> {
+        number(want, self)
+    }
+}
+
+impl Recorded for usize {
+    fn follows(self, want: &[u8]) -> Option<&[u8]> {
+        size(want, self)
+    }
+}
+
+// Its sign and its magnitude.
+impl Recorded for i64 {
+    fn follows(self, want: &[u8]) -> Option<&[u8]> {
+        number(flag(want, self < 0)?, self.unsigned_abs())
+    }
+}
+
+impl Recorded for Place {
+    fn follows(self, want: &[u8]) -> Option<&[u8]> {
+        size(size(want, self.start)?, self.len)
+    }
+}
+
+// 1 and what there is, or 0 for nothing.
+impl<T: Recorded> Recorded for Option<T> {
+    fn follows(self, want: &[u8]) -> Option<&[u8]> {
+        match self {
+            Some(said) => said.follows(number(want, 1)?),
+            None => number(want, 0),
+        }
     }
 }

@@ -33,11 +33,12 @@ const END: u8 = 0xff;
 const ENTRIES: u8 = 48;
 
 // How far the reading is.
-const READING: u8 = 0;
-
-const WHOLE: u8 = 1;
-
-const DAMAGED: u8 = 2;
+#[derive(Clone, Copy, PartialEq, Eq)]
+enum Stage {
+    Reading,
+    Whole,
+    Damaged,
+}
 
 // Where the next record starts, how long the input is, the builder of the session and its room, and what was counted.
 #[derive(Clone, Copy)]
@@ -49,31 +50,27 @@ struct State {
     asked: u64,
     marked: u64,
     differ: u64,
-    stage: u8,
+    stage: Stage,
 }
 
-fn more(n: u64) -> u64 {
-    if n < u64::MAX { n + 1 } else { n }
+// The builder's buffer, the space that the other entries are lent, and how many answers agree, by entry.
+#[derive(Drop)]
+struct Buffers {
+    builder: [u8; 1024],
+    space: [u8; 1024],
+    counts: [u64; 54],
 }
 
-fn staged(s: State, stage: u8) -> State {
-    let mut next = s;
-    next.stage = stage;
-    next
-}
-
-fn moved(s: State, at: usize) -> State {
-    let mut next = s;
-    next.at = at;
-    next
-}
-
-fn begun(at: usize, stage: u8) -> State {
-    let builder = Builder::new();
+fn begin(data: &[u8]) -> State {
+    let (at, stage) = if data.starts_with(b"replay 1\n") {
+        (9, Stage::Reading)
+    } else {
+        (0, Stage::Damaged)
+    };
     State {
         at,
         len: 0,
-        builder,
+        builder: Builder::new(),
         room: 0,
         asked: 0,
         marked: 0,
@@ -82,130 +79,115 @@ fn begun(at: usize, stage: u8) -> State {
     }
 }
 
-fn begin(data: &[u8]) -> State {
-    if file::same(file::part(data, 0, 9), b"replay 1\n") {
-        return begun(9, READING);
+fn damaged(s: State) -> State {
+    State {
+        stage: Stage::Damaged,
+        ..s
     }
-    begun(0, DAMAGED)
 }
 
-// Counts a record that was asked, and whether its answer agrees.
+// Counts a record that was asked, and whether its answer agrees: nothing of the wanted bytes is left. Handle, record and state go side by side, since each
+// function goes on with others of them.
 fn compared(
     rt: &impl Print,
-    h: Head,
+    h: Head<'_>,
     s: State,
-    agree: bool,
+    left: Option<&[u8]>,
     counts: &mut [u64; 54],
 ) -> io::Result<State> {
-    let mut next = moved(s, h.next);
-    next.asked = more(s.asked);
-    if agree {
-        counted(h.kind, counts);
+    let next = State {
+        at: h.next,
+        asked: s.asked.saturating_add(1),
+        ..s
+    };
+    if left.is_some_and(|rest| rest.is_empty()) {
+        count(h.kind, counts);
         return Ok(next);
     }
     if s.differ == 0 {
         report::first_differing(rt, next.asked, s.at, h.kind)?;
     }
-    next.differ = more(s.differ);
-    Ok(next)
+    Ok(State {
+        differ: s.differ.saturating_add(1),
+        ..next
+    })
 }
 
-fn counted(kind: u8, counts: &mut [u64; 54]) {
-    let k = kind as usize;
-    if k < 54 {
-        counts[k] = more(counts[k]);
+fn count(kind: u8, counts: &mut [u64; 54]) {
+    if let Some(n) = counts.get_mut(usize::from(kind)) {
+        *n = n.saturating_add(1);
     }
 }
 
 // An entry that keeps nothing.
 fn asked(
     rt: &impl Print,
-    data: &[u8],
-    h: Head,
+    h: Head<'_>,
     s: State,
     input: &[u8],
-    space: &mut [u8],
-    counts: &mut [u64; 54],
+    buffers: &mut Buffers,
 ) -> io::Result<State> {
-    let want = file::part(data, h.from, h.len);
-    let bytes = file::part(input, 0, s.len);
-    let end = entries::answered_in(h.kind, h.arg, h.room, bytes, space, want);
-    compared(rt, h, s, end == want.len(), counts)
+    let left = entries::answered(h, input, &mut buffers.space);
+    compared(rt, h, s, left, &mut buffers.counts)
 }
 
-// A session's room is that of its first record.
-fn room_of(h: Head, s: State) -> usize {
-    if h.kind < 42 {
-        return h.room;
-    }
-    s.room
-}
-
-// A call of the builder.
+// A call of the builder. A session's room is that of its first record.
 fn session(
     rt: &impl Print,
-    data: &[u8],
-    h: Head,
+    h: Head<'_>,
     s: State,
     input: &[u8],
-    buffer: &mut [u8],
-    counts: &mut [u64; 54],
+    buffers: &mut Buffers,
 ) -> io::Result<State> {
-    let want = file::part(data, h.from, h.len);
-    let bytes = file::part(input, 0, s.len);
-    let room = room_of(h, s);
-    let builder = s.builder;
-    let left = on_builder::answer_part(h.kind, h.arg, bytes, builder, room, buffer, want);
-    let mut next = compared(rt, h, s, left.want == want.len(), counts)?;
-    let after = left.builder;
-    next.builder = after;
-    next.room = room;
-    Ok(next)
+    let room = if h.kind < 42 { h.room } else { s.room };
+    let left = on_builder::answer(h, input, s.builder, room, &mut buffers.builder);
+    let next = compared(rt, h, s, left.want, &mut buffers.counts)?;
+    Ok(State {
+        builder: left.builder,
+        room,
+        ..next
+    })
 }
 
-fn set_input(data: &[u8], h: Head, s: State, input: &mut [u8]) -> State {
-    let room = h.room;
-    if input.len() < room {
-        return staged(s, DAMAGED);
+fn set_input(h: Head<'_>, s: State, input: &mut [u8]) -> State {
+    match input.get_mut(..h.room) {
+        Some(part) => {
+            lent::fill(h.bytes, file::low(h.arg), part);
+            State {
+                at: h.next,
+                len: h.room,
+                ..s
+            }
+        }
+        None => damaged(s),
     }
-    lent::fill_part(
-        file::part(data, h.from, h.len),
-        file::low(h.arg),
-        room,
-        input,
-    );
-    let mut next = moved(s, h.next);
-    next.len = room;
-    next
 }
 
 // The next record's answer is document 01's, where the crate differs. The differences are counted behind the entries.
-fn marked(h: Head, s: State, counts: &mut [u64; 54]) -> State {
-    let letter = file::low(h.arg);
-    if letter == 0 {
-        return staged(s, DAMAGED);
+fn marked(h: Head<'_>, s: State, counts: &mut [u64; 54]) -> State {
+    match file::low(h.arg) {
+        letter @ 1..=5 => {
+            count(ENTRIES + letter, counts);
+            State {
+                at: h.next,
+                marked: s.marked.saturating_add(1),
+                ..s
+            }
+        }
+        _ => damaged(s),
     }
-    if 5 < letter {
-        return staged(s, DAMAGED);
-    }
-    counted(ENTRIES + letter, counts);
-    let mut next = moved(s, h.next);
-    next.marked = more(s.marked);
-    next
 }
 
 // The last record has the counts of the records that ask and of the marks, and nothing follows it.
-fn ended(data: &[u8], h: Head, s: State) -> State {
-    if h.arg != s.asked {
-        return staged(s, DAMAGED);
+fn ended(data: &[u8], h: Head<'_>, s: State) -> State {
+    if h.arg == s.asked && h.room as u64 == s.marked && h.next == data.len() {
+        State {
+            stage: Stage::Whole,
+            ..s
+        }
+    } else {
+        damaged(s)
     }
-    if h.room as u64 != s.marked {
-        return staged(s, DAMAGED);
-    }
-    if h.next != data.len() {
-        return staged(s, DAMAGED);
-    }
-    staged(s, WHOLE)
 }
 
 // One record.
@@ -214,70 +196,57 @@ fn turn(
     data: &[u8],
     s: State,
     input: &mut [u8],
-    buffer: &mut [u8],
-    space: &mut [u8],
-    counts: &mut [u64; 54],
+    buffers: &mut Buffers,
 ) -> io::Result<State> {
-    let h = file::read_head(data, s.at);
-    if h.whole {
-        let kind = h.kind;
-        match kind {
-            1..=39 => asked(rt, data, h, s, input, space, counts),
-            40..=47 => session(rt, data, h, s, input, buffer, counts),
-            ENTRIES => asked(rt, data, h, s, input, space, counts),
-            MARK => Ok(marked(h, s, counts)),
-            INPUT => Ok(set_input(data, h, s, input)),
-            END => Ok(ended(data, h, s)),
-            _ => Ok(staged(s, DAMAGED)),
-        }
-    } else {
-        Ok(staged(s, DAMAGED))
+    let Some(h) = file::read_head(data, s.at) else {
+        return Ok(damaged(s));
+    };
+    match h.kind {
+        1..=39 | ENTRIES => asked(rt, h, s, file::part(input, 0, s.len), buffers),
+        40..=47 => session(rt, h, s, file::part(input, 0, s.len), buffers),
+        MARK => Ok(marked(h, s, &mut buffers.counts)),
+        INPUT => Ok(set_input(h, s, input)),
+        END => Ok(ended(data, h, s)),
+        _ => Ok(damaged(s)),
     }
 }
 
 fn print_report(rt: &impl Print, s: State, counts: &[u64; 54]) -> io::Result<()> {
     report::lines(rt, counts)?;
-    if s.stage != WHOLE {
+    if s.stage != Stage::Whole {
         report::damaged(rt, s.at)?;
     }
     if 0 < s.differ {
         report::differing(rt, s.asked, s.differ)?;
-    } else if s.stage == WHOLE {
+    } else if s.stage == Stage::Whole {
         report::agreeing(rt, s.asked, s.marked)?;
     }
     Ok(())
 }
 
 // Each record has at least one byte, so that there are no more turns than bytes.
-fn run(
-    rt: &impl Print,
-    data: &[u8],
-    input: &mut [u8],
-    buffer: &mut [u8],
-    space: &mut [u8],
-    counts: &mut [u64; 54],
-) -> io::Result<State> {
+fn run(rt: &impl Print, data: &[u8], input: &mut [u8], buffers: &mut Buffers) -> io::Result<State> {
     let mut s = begin(data);
-    let mut left = data.len();
-    while 0 < left {
-        left -= 1;
-        if s.stage == READING {
-            s = turn(rt, data, s, input, buffer, space, counts)?;
-        } else {
-            return Ok(s);
+    for _ in 0..data.len() {
+        if s.stage != Stage::Reading {
+            break;
         }
+        s = turn(rt, data, s, input, buffers)?;
     }
     Ok(s)
 }
 
 fn with_buffers(rt: &impl Print, data: &[u8], input: &mut [u8; 4_194_305]) -> io::Result<()> {
-    let mut buffer = [0u8; 1024];
-    let mut space = [0u8; 1024];
-    let mut counts = [0u64; 54];
-    let s = run(rt, data, input, &mut buffer, &mut space, &mut counts)?;
-    print_report(rt, s, &counts)
+    let mut buffers = Buffers {
+        builder: [0u8; 1024],
+        space: [0u8; 1024],
+        counts: [0u64; 54],
+    };
+    let s = run(rt, data, input, &mut buffers)?;
+    print_report(rt, s, &buffers.counts)
 }
 
+// An array as long as this one is made in a function of its own, and lent whole: the check does not look into it.
 fn with_input(rt: &impl Print, data: &[u8]) -> io::Result<()> {
     let mut input = [0u8; 4_194_305];
     with_buffers(rt, data, &mut input)
@@ -298,13 +267,9 @@ fn read_full<R: Read>(from: &mut R, buf: &mut [u8]) -> usize
     done
 }
 
-fn read<R: Read>(rt: &impl Print, from: &mut R, data: &mut [u8]) -> io::Result<()> {
+fn read_into<R: Read>(rt: &impl Print, from: &mut R, data: &mut [u8; 655_360]) -> io::Result<()> {
     let n = read_full(from, data);
     with_input(rt, &data[..n])
-}
-
-fn read_into<R: Read>(rt: &impl Print, from: &mut R, data: &mut [u8; 655_360]) -> io::Result<()> {
-    read(rt, from, data)
 }
 
 fn main(rt: HostRuntime) -> io::Result<()> {

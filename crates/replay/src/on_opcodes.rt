@@ -1,7 +1,8 @@
-// The entries of `opcodes`, numbers 1 to 8.
+// The entries of `opcodes`, by their numbers in the file, 1 to 8.
 use crate::expect;
-use opcodes::{Class, Code, Form};
+use opcodes::{Class, Form};
 
+// The file's number for the form (docs/REPLAY.md).
 pub(crate) fn form_number(form: Form) -> u64 {
     match form {
         Form::Direct => 0,
@@ -11,6 +12,7 @@ pub(crate) fn form_number(form: Form) -> u64 {
     }
 }
 
+// The file's number for the class.
 fn class_number(class: Class) -> u64 {
     match class {
         Class::Push(form) => form_number(form),
@@ -19,6 +21,7 @@ fn class_number(class: Class) -> u64 {
     }
 }
 
+// The form with this number in the file.
 fn form_of(n: u8) -> Form {
     match n {
         0 => Form::Direct,
@@ -28,7 +31,7 @@ fn form_of(n: u8) -> Form {
     }
 }
 
-fn write_name(code: u8, out: &mut [u8], want: &[u8]) -> usize {
+fn write_name<'a>(code: u8, out: &mut [u8], want: &'a [u8]) -> Option<&'a [u8]> {
     let answer = names::write_name(code, out);
     expect::written(want, answer, out)
 }
@@ -38,29 +41,24 @@ fn name_len_in(code: u8) -> usize {
     names::name_len_in(&lengths, code)
 }
 
-fn coded(want: &[u8], answer: Code) -> usize {
-    let at = expect::number(want, 0, 0);
-    expect::code(want, at, answer)
-}
-
-fn name_in(code: u8, want: &[u8]) -> usize {
+fn name_in(code: u8, want: &[u8]) -> Option<&[u8]> {
     let pool = pool::name_pool();
     let starts = pool::name_starts();
     let lengths = pool::name_lengths();
-    let at = expect::number(want, 0, 0);
-    expect::bytes(want, at, names::name_in(&pool, &starts, &lengths, code))
+    let rest = expect::number(want, 0)?;
+    expect::bytes(rest, names::name_in(&pool, &starts, &lengths, code))
 }
 
-pub(crate) fn answer(kind: u8, code: u8, out: &mut [u8], want: &[u8]) -> usize {
+pub(crate) fn answer<'a>(kind: u8, code: u8, out: &mut [u8], want: &'a [u8]) -> Option<&'a [u8]> {
     match kind {
         1 => expect::value(want, class_number(opcodes::classify(code))),
         2 => expect::value(want, opcodes::length_bytes(form_of(code)) as u64),
-        3 => coded(want, opcodes::decode_pushnum(code)),
-        4 => coded(want, opcodes::opcode_to_verify(code)),
+        3 => expect::answer(want, Ok(opcodes::decode_pushnum(code))),
+        4 => expect::answer(want, Ok(opcodes::opcode_to_verify(code))),
         5 => expect::value(want, names::name_len(code) as u64),
         6 => write_name(code, out, want),
         7 => expect::value(want, name_len_in(code) as u64),
         8 => name_in(code, want),
-        _ => expect::MISS,
+        _ => None,
     }
 }

@@ -1,9 +1,9 @@
-// The entries of `templates`, numbers 18 to 33.
+// The entries of `templates`, by their numbers in the file, 18 to 33.
 use crate::{expect, file};
-use refusal::Judged;
-use templates::{Coded, Kinded, Place, Template, Version};
+use refusal::Refusal;
+use templates::{Place, Template};
 
-fn hash_or_witness(kind: u8, input: &[u8]) -> Judged {
+fn hash_or_witness(kind: u8, input: &[u8]) -> Result<bool, Refusal> {
     match kind {
         18 => templates::is_p2pkh(input),
         19 => templates::is_p2sh(input),
@@ -14,7 +14,7 @@ fn hash_or_witness(kind: u8, input: &[u8]) -> Judged {
     }
 }
 
-fn other_judged(kind: u8, input: &[u8]) -> Judged {
+fn other_judged(kind: u8, input: &[u8]) -> Result<bool, Refusal> {
     match kind {
         24 => templates::is_witness_program(input),
         25 => templates::is_p2pk(input),
@@ -24,79 +24,28 @@ fn other_judged(kind: u8, input: &[u8]) -> Judged {
     }
 }
 
-fn version(want: &[u8], answer: Version) -> usize {
-    match answer {
-        Version::Is(v) => {
-            let at = expect::number(want, 0, 0);
-            let next = expect::number(want, at, 1);
-            expect::number(want, next, v as u64)
-        }
-        Version::Nothing => expect::value(want, 0),
-        Version::Refused(r) => expect::refused(want, 0, r),
-    }
-}
-
-fn place(want: &[u8], start: usize, len: usize) -> usize {
-    let at = expect::number(want, 0, 0);
-    let next = expect::number(want, at, 1);
-    let then = expect::size(want, next, start);
-    expect::size(want, then, len)
-}
-
 // A place and a length, and whether the part handed back holds the bytes there; where there is no place, that the part is empty.
-fn placed(input: &[u8], part: &[u8], want: &[u8], answer: Place) -> usize {
+fn placed<'a>(
+    input: &[u8],
+    part: &[u8],
+    want: &'a [u8],
+    answer: Result<Option<Place>, Refusal>,
+) -> Option<&'a [u8]> {
+    let rest = expect::answer(want, answer)?;
     match answer {
-        Place::At { start, len } => {
-            let at = place(want, start, len);
-            expect::flag(want, at, file::same(part, file::part(input, start, len)))
+        Ok(Some(Place { start, len })) => {
+            expect::flag(rest, part == file::part(input, start, len))
         }
-        Place::Nothing => expect::value(want, part.len() as u64),
-        Place::Refused(r) => {
-            let at = expect::refused(want, 0, r);
-            if part.len() == 0 {
-                return at;
-            }
-            expect::MISS
-        }
+        _ => if part.is_empty() { Some(rest) } else { None },
     }
 }
 
-fn p2pk_key(input: &[u8], want: &[u8]) -> usize {
-    placed(
-        input,
-        templates::p2pk_key_part(input),
-        want,
-        templates::p2pk_key(input),
-    )
-}
-
-fn redeem_script(input: &[u8], want: &[u8]) -> usize {
-    placed(
-        input,
-        templates::redeem_part(input),
-        want,
-        templates::redeem_script(input),
-    )
-}
-
-fn coded(want: &[u8], answer: Coded) -> usize {
-    match answer {
-        Coded::Bytes(count) => {
-            let at = expect::number(want, 0, 0);
-            let next = expect::number(want, at, 1);
-            expect::size(want, next, count)
-        }
-        Coded::Nothing => expect::value(want, 0),
-        Coded::Refused(r) => expect::refused(want, 0, r),
-    }
-}
-
-fn p2wpkh_script_code(input: &[u8], out: &mut [u8], want: &[u8]) -> usize {
+fn p2wpkh_script_code<'a>(input: &[u8], out: &mut [u8], want: &'a [u8]) -> Option<&'a [u8]> {
     let answer = templates::p2wpkh_script_code(input, out);
-    let at = coded(want, answer);
-    expect::bytes(want, at, out)
+    expect::written(want, answer, out)
 }
 
+// The file's number for the template (docs/REPLAY.md).
 fn kind_number(kind: Template) -> u64 {
     match kind {
         Template::P2pkh => 0,
@@ -113,22 +62,30 @@ fn kind_number(kind: Template) -> u64 {
     }
 }
 
-fn kind_of(want: &[u8], answer: Kinded) -> usize {
-    match answer {
-        Kinded::Is(kind) => expect::value(want, kind_number(kind)),
-        Kinded::Refused(r) => expect::refused(want, 0, r),
-    }
-}
-
-pub(crate) fn answer(kind: u8, input: &[u8], out: &mut [u8], want: &[u8]) -> usize {
+pub(crate) fn answer<'a>(
+    kind: u8,
+    input: &[u8],
+    out: &mut [u8],
+    want: &'a [u8],
+) -> Option<&'a [u8]> {
     match kind {
-        18..=23 => expect::judged(want, hash_or_witness(kind, input)),
-        24..=28 => expect::judged(want, other_judged(kind, input)),
-        29 => version(want, templates::witness_version(input)),
-        30 => p2pk_key(input, want),
-        31 => redeem_script(input, want),
+        18..=23 => expect::answer(want, hash_or_witness(kind, input)),
+        24..=28 => expect::answer(want, other_judged(kind, input)),
+        29 => expect::answer(want, templates::witness_version(input)),
+        30 => placed(
+            input,
+            templates::p2pk_key_part(input),
+            want,
+            templates::p2pk_key(input),
+        ),
+        31 => placed(
+            input,
+            templates::redeem_part(input),
+            want,
+            templates::redeem_script(input),
+        ),
         32 => p2wpkh_script_code(input, out, want),
-        33 => kind_of(want, templates::kind(input)),
-        _ => expect::MISS,
+        33 => expect::answer(want, templates::kind(input).map(kind_number)),
+        _ => None,
     }
 }

@@ -1,159 +1,115 @@
-// The entries of `walk`, numbers 14 to 17: all calls of the walk up to its end, each with the body that the second call hands back, and the table of
+// The entries of `walk`, by their numbers in the file, 14 to 17: all calls of the walk up to its end, each with the body that the second call hands back, and the table of
 // positions.
 use crate::{expect, file, lent, on_opcodes};
-use walk::{Cursor, Found, Mode};
-
-// Where the answer and the walk go on after a call.
-#[derive(Clone, Copy)]
-struct Gone {
-    want: usize,
-    at: usize,
-    end: bool,
-}
+use walk::{Cursor, Found, Instruction, Mode};
 
 // Whether the part handed back holds the bytes at that place.
-fn body_holds(input: &[u8], at: usize, mode: Mode, place: usize, len: usize) -> bool {
-    let c = Cursor { at };
-    file::same(walk::body(input, c, mode), file::part(input, place, len))
+fn body_holds(input: &[u8], cursor: Cursor, mode: Mode, place: usize, len: usize) -> bool {
+    walk::body(input, cursor, mode) == file::part(input, place, len)
 }
 
-fn opcode(want: &[u8], start: usize, place: usize, code: u8) -> usize {
-    let at = expect::number(want, start, 1);
-    let next = expect::size(want, at, place);
-    expect::number(want, next, code as u64)
+fn opcode(want: &[u8], place: usize, code: u8) -> Option<&[u8]> {
+    let rest = expect::number(want, 1)?;
+    let rest = expect::size(rest, place)?;
+    expect::number(rest, u64::from(code))
 }
 
-fn push(want: &[u8], start: usize, place: usize, form: u64, body: usize, len: usize) -> usize {
-    let mut at = expect::number(want, start, 2);
-    at = expect::size(want, at, place);
-    at = expect::number(want, at, form);
-    at = expect::size(want, at, body);
-    expect::size(want, at, len)
+fn push(want: &[u8], place: usize, form: u64, body: usize, len: usize) -> Option<&[u8]> {
+    let rest = expect::number(want, 2)?;
+    let rest = expect::size(rest, place)?;
+    let rest = expect::number(rest, form)?;
+    let rest = expect::size(rest, body)?;
+    expect::size(rest, len)
 }
 
 // What was found, without the body.
-fn expect_found(want: &[u8], start: usize, found: Found) -> usize {
+fn expect_found(want: &[u8], found: Found) -> Option<&[u8]> {
     match found {
-        Found::End => expect::number(want, start, 0),
-        Found::Opcode { place, code } => opcode(want, start, place, code),
-        Found::Push {
-            place,
-            form,
-            body,
-            len,
-        } => push(want, start, place, on_opcodes::form_number(form), body, len),
-        Found::Refused(r) => {
-            let at = expect::number(want, start, 3);
-            expect::refused(want, at, r)
-        }
-    }
-}
-
-fn is_end(found: Found) -> bool {
-    match found {
-        Found::End => true,
-        _ => false,
+        Ok(None) => expect::number(want, 0),
+        Ok(Some(Instruction::Opcode { place, code })) => opcode(want, place, code),
+        Ok(
+            Some(
+                Instruction::Push {
+                    place,
+                    form,
+                    body,
+                    len,
+                },
+            ),
+        ) => push(want, place, on_opcodes::form_number(form), body, len),
+        Err(r) => expect::refused(expect::number(want, 3)?, r),
     }
 }
 
 // For a push, whether its body holds the right bytes; else nothing, and that the body is empty is part of the answer.
-fn expect_body(
+fn expect_body<'a>(
     input: &[u8],
-    cursor: usize,
+    cursor: Cursor,
     mode: Mode,
-    want: &[u8],
-    at: usize,
+    want: &'a [u8],
     found: Found,
-) -> usize {
+) -> Option<&'a [u8]> {
     match found {
-        Found::Push {
-            place: _,
-            form: _,
-            body,
-            len,
-        } => expect::flag(want, at, body_holds(input, cursor, mode, body, len)),
+        Ok(Some(Instruction::Push { body, len, .. })) => expect::flag(
+            want,
+            body_holds(input, cursor, mode, body, len),
+        ),
         _ => {
             if body_holds(input, cursor, mode, 0, 0) {
-                return at;
+                Some(want)
+            } else {
+                None
             }
-            expect::MISS
         }
-    }
-}
-
-// One call.
-fn step(input: &[u8], cursor: usize, mode: Mode, want: &[u8], start: usize) -> Gone {
-    let c = Cursor { at: cursor };
-    let stepped = c.next(input, mode);
-    let f = stepped.found;
-    let next = stepped.next;
-    let at = expect_found(want, start, f);
-    let then = expect_body(input, cursor, mode, want, at, f);
-    let last = expect::size(want, then, next.at);
-    Gone {
-        want: last,
-        at: next.at,
-        end: is_end(f),
     }
 }
 
 // The calls up to the end, at most one more than the script has bytes.
-fn calls(input: &[u8], mode: Mode, want: &[u8]) -> usize {
-    let first = Cursor::new();
-    let mut cursor = first.at;
-    let mut at = 0;
-    let mut left = input.len();
-    while 0 < left {
-        left -= 1;
-        let gone = step(input, cursor, mode, want, at);
-        if gone.end {
-            return gone.want;
+fn calls<'a>(input: &[u8], mode: Mode, want: &'a [u8]) -> Option<&'a [u8]> {
+    let mut cursor = Cursor::new();
+    let mut rest = want;
+    for _ in 0..=input.len() {
+        let stepped = cursor.next(input, mode);
+        rest = expect_found(rest, stepped.found)?;
+        rest = expect_body(input, cursor, mode, rest, stepped.found)?;
+        rest = expect::size(rest, stepped.next.at)?;
+        if stepped.found == Ok(None) {
+            break;
         }
-        cursor = gone.at;
-        at = gone.want;
+        cursor = stepped.next;
     }
-    let last = step(input, cursor, mode, want, at);
-    last.want
+    Some(rest)
 }
 
-fn wide(n: u32) -> u64 {
-    n as u64
-}
-
-fn entries(table: &[u32], want: &[u8], start: usize) -> usize {
-    let mut at = start;
-    let mut i = 0;
-    while i < table.len() {
-        at = expect::number(want, at, wide(table[i]));
-        i += 1;
+fn entries<'a>(table: &[u32], want: &'a [u8]) -> Option<&'a [u8]> {
+    let mut rest = want;
+    for place in table {
+        rest = expect::number(rest, u64::from(*place))?;
     }
-    at
+    Some(rest)
 }
 
-fn positions_in(input: &[u8], mode: Mode, table: &mut [u32], want: &[u8]) -> usize {
+fn positions_in<'a>(
+    input: &[u8],
+    mode: Mode,
+    table: &mut [u32],
+    want: &'a [u8],
+) -> Option<&'a [u8]> {
     let answer = places::positions(input, mode, table);
-    let at = expect::counted(want, answer);
-    entries(table, want, at)
+    entries(table, expect::answer(want, answer)?)
 }
 
-fn positions_part(input: &[u8], mode: Mode, room: usize, table: &mut [u32], want: &[u8]) -> usize {
-    if room <= table.len() {
-        return positions_in(input, mode, &mut table[..room], want);
-    }
-    expect::MISS
+fn positions<'a>(input: &[u8], mode: Mode, room: usize, want: &'a [u8]) -> Option<&'a [u8]> {
+    let mut table = [u32::from(lent::PATTERN); 320];
+    positions_in(input, mode, table.get_mut(..room)?, want)
 }
 
-fn positions(input: &[u8], mode: Mode, room: usize, want: &[u8]) -> usize {
-    let mut table = [lent::PATTERN as u32; 320];
-    positions_part(input, mode, room, &mut table, want)
-}
-
-pub(crate) fn answer(kind: u8, room: usize, input: &[u8], want: &[u8]) -> usize {
+pub(crate) fn answer<'a>(kind: u8, room: usize, input: &[u8], want: &'a [u8]) -> Option<&'a [u8]> {
     match kind {
         14 => calls(input, Mode::Plain, want),
         15 => calls(input, Mode::Minimal, want),
         16 => positions(input, Mode::Plain, room, want),
         17 => positions(input, Mode::Minimal, room, want),
-        _ => expect::MISS,
+        _ => None,
     }
 }

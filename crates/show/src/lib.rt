@@ -1,8 +1,11 @@
 // Answers printed on standard output, for the programs that run the entries at the edges of their inputs.
 #![tactic(auto)]
 
-use refusal::{Counted, Judged, Refusal};
+use opcodes::Form;
+use refusal::Refusal;
 use std::io;
+use templates::Template;
+use walk::Instruction;
 
 // The bytes as they are.
 pub fn text(rt: &impl Print, s: &[u8]) -> io::Result<()> {
@@ -13,15 +16,10 @@ pub fn line_end(rt: &impl Print) -> io::Result<()> {
     text(rt, b"\n")
 }
 
-pub fn decimal(rt: &impl Print, n: u64) -> io::Result<()> {
-    rt.print(n)
-}
-
 // Two digits for each byte, with a space before them.
 pub fn hex(rt: &impl Print, s: &[u8]) -> io::Result<()> {
-    for i in 0..s.len() {
-        text(rt, b" ")?;
-        print!(rt; "{:02x}", s[i])?;
+    for b in s {
+        print!(rt; " {b:02x}")?;
     }
     Ok(())
 }
@@ -30,44 +28,116 @@ pub fn hex(rt: &impl Print, s: &[u8]) -> io::Result<()> {
 pub fn named(rt: &impl Print, word: &[u8], n: usize) -> io::Result<()> {
     text(rt, b" ")?;
     text(rt, word)?;
-    text(rt, b" ")?;
-    decimal(rt, n as u64)
+    print!(rt; " {n}")
 }
 
-// A refusal's number and its values.
+// A refusal's number and its values. No Display of the library: its words would be a promise to its callers, and these programs alone print them.
 pub fn refused(rt: &impl Print, r: Refusal) -> io::Result<()> {
-    named(rt, b"refusal", r.number() as usize)?;
+    let number = r.number();
+    print!(rt; " refusal {number}")?;
     match r {
-        Refusal::NonMinimal(place) => named(rt, b"at", place),
-        Refusal::NoRoom(needed) => named(rt, b"needs", needed),
-        Refusal::LengthCut(place, missing) => cut(rt, place, missing),
-        Refusal::BodyCut(place, missing) => cut(rt, place, missing),
+        Refusal::NonMinimal(place) => print!(rt; " at {place}"),
+        Refusal::NoRoom(needed) => print!(rt; " needs {needed}"),
+        Refusal::LengthCut(place, missing) | Refusal::BodyCut(place, missing) => {
+            print!(rt; " at {place} missing {missing}")
+        }
         _ => Ok(()),
     }
 }
 
-// Where a push is cut, and how many bytes it lacks.
-fn cut(rt: &impl Print, place: usize, missing: usize) -> io::Result<()> {
-    named(rt, b"at", place)?;
-    named(rt, b"missing", missing)
+// What an entry answers, printed with a space before it.
+pub trait Show {
+    fn show(self, rt: &impl Print) -> io::Result<()>;
 }
 
-pub fn counted(rt: &impl Print, answer: Counted) -> io::Result<()> {
+// The answer, or the refusal.
+pub fn answer<T: Show>(rt: &impl Print, answer: Result<T, Refusal>) -> io::Result<()> {
     match answer {
-        Counted::Count(count) => named(rt, b"count", count),
-        Counted::Refused(r) => refused(rt, r),
+        Ok(said) => said.show(rt),
+        Err(r) => refused(rt, r),
     }
 }
 
-pub fn judged(rt: &impl Print, answer: Judged) -> io::Result<()> {
-    match answer {
-        Judged::Answer(yes) => {
-            if yes {
-                text(rt, b" true")
-            } else {
-                text(rt, b" false")
+impl Show for () {
+    fn show(self, rt: &impl Print) -> io::Result<()> {
+        print!(rt; " done")
+    }
+}
+
+impl Show for bool {
+    fn show(self, rt: &impl Print) -> io::Result<()> {
+        print!(rt; " {self}")
+    }
+}
+
+// A count.
+impl Show for usize {
+    fn show(self, rt: &impl Print) -> io::Result<()> {
+        print!(rt; " count {self}")
+    }
+}
+
+// An amount.
+impl Show for u64 {
+    fn show(self, rt: &impl Print) -> io::Result<()> {
+        print!(rt; " {self}")
+    }
+}
+
+// A number that was read.
+impl Show for i64 {
+    fn show(self, rt: &impl Print) -> io::Result<()> {
+        print!(rt; " {self}")
+    }
+}
+
+impl Show for Template {
+    fn show(self, rt: &impl Print) -> io::Result<()> {
+        let name = match self {
+            Template::P2pkh => "p2pkh",
+            Template::P2sh => "p2sh",
+            Template::P2wpkh => "p2wpkh",
+            Template::P2wsh => "p2wsh",
+            Template::P2tr => "p2tr",
+            Template::P2a => "p2a",
+            Template::Witness => "witness",
+            Template::P2pk => "p2pk",
+            Template::Multisig => "multisig",
+            Template::OpReturn => "opreturn",
+            Template::Other => "other",
+        };
+        print!(rt; " {name}")
+    }
+}
+
+// What the walk found.
+impl Show for Option<Instruction> {
+    fn show(self, rt: &impl Print) -> io::Result<()> {
+        match self {
+            None => print!(rt; " end"),
+            Some(Instruction::Opcode { place, code }) => {
+                print!(rt; " opcode at {place} code {code}")
+            }
+            Some(
+                Instruction::Push {
+                    place,
+                    form,
+                    body,
+                    len,
+                },
+            ) => {
+                let form = form_name(form);
+                print!(rt; " push at {place} {form} body at {body} of {len}")
             }
         }
-        Judged::Refused(r) => refused(rt, r),
+    }
+}
+
+fn form_name(form: Form) -> &'static str {
+    match form {
+        Form::Direct => "direct",
+        Form::PushData1 => "pushdata1",
+        Form::PushData2 => "pushdata2",
+        Form::PushData4 => "pushdata4",
     }
 }

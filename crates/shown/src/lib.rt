@@ -1,73 +1,65 @@
 // One raw script from a reader to its screen on standard output.
 #![tactic(auto)]
 
-ghost use Rattle.std.specs.Prelude.{◌≡◌, ◌++◌, ◌-◌, ◌≤◌, ◌<◌, length, take, drop};
-ghost use Rattle.screen.specs.Screen.{most_shown, screen_of};
-ghost use Rattle.shown.specs.Reads.{brought, Moved, Reached, Left, Whole};
+ghost use Rattle.std.specs.Prelude.{◌≡◌, ◌++◌, ◌≤◌, length, take, drop, IfOk, IfSome};
+ghost use Rattle.std.specs.Io.{ReadsAtMost};
+ghost use Rattle.std.specs.Io.KnownBytes.{ReadConsumes};
+ghost use Rattle.screen.specs.Screen.{screen_of};
+ghost use Rattle.shown.specs.Reads.{Brings, Shows};
 
 use inspect::inspect;
-use refusal::Counted;
+use std::io;
 use std::io::Read;
 
 // How many bytes are read at most: one more than is inspected. What follows them changes no screen.
 const MAX_READ: usize = 2801;
 
-// What the reads brought: how many bytes in all, and what the last of them answered; 1 before the first.
-#[derive(Clone, Copy)]
-pub struct Reads {
-    pub done: usize,
-    pub last: isize,
-}
-
 // One read, behind so many bytes of the buffer, which stay as they are.
-fn read_on<R: Read>(from: &mut R, buf: &mut [u8], done: usize) -> isize
+fn read_on<R: Read>(from: &mut R, buf: &mut [u8], done: usize) -> io::Result<usize>
     requires { done ≤ length buf.old }
-    ensures answer { Moved (length buf.new - done) result }
+    ensures bound { ReadsAtMost result (drop done buf.new) }
+    ensures bytes { ReadConsumes (R.remaining from.old) (R.remaining from.new) result (drop done buf.new) }
     ensures kept { take done buf.new ≡ take done buf.old }
 {
-    match from.read(&mut buf[done..]) {
-        Ok(n) => n as isize,
-        Err(_) => -1,
-    }
+    from.read(&mut buf[done..])
 }
 
-// How many bytes a read brought, by its answer.
-fn count(answer: isize) -> usize
-    ensures { result ≡ brought answer }
+// Reads to the input's end in as many reads as it takes, or until the buffer is full, and answers how many bytes these are. Fails where a read does.
+fn read_in<R: Read>(from: &mut R, buf: &mut [u8]) -> io::Result<usize>
+    ensures room { length buf.new ≡ length buf.old }
+    ensures whole { IfOk result (λ n. Brings (R.remaining from.old) buf.new n) }
 {
-    if answer < 0 { 0 } else { answer as usize }
-}
-
-// Reads to the input's end in as many reads as it takes, or until the buffer is full, which is over the inspector's limit.
-fn read_in<R: Read>(from: &mut R, buf: &mut [u8]) -> Reads
-    requires { most_shown < length buf.old }
-    ensures { Reached (length buf.new) result.done result.last × Left (length buf.new) result.done result.last }
-{
-    let mut done: usize = 0;
-    let mut last: isize = 1;
+    let mut done = 0;
     while done < buf.len() {
-        last = read_on(from, buf, done);
-        let more = count(last);
+        let more = read_on(from, buf, done)?;
         if more == 0 {
-            return Reads { done, last };
+            return Ok(done);
         }
         done += more;
     }
-    Reads { done, last }
+    Ok(done)
 }
 
-// Writes the screen of what was read to a buffer that has room for every screen, and answers its length.
-fn screen(script: &[u8], reads: Reads, out: &mut [u8]) -> usize
-    requires { (reads.done ≤ length script.now) × (64538 ≤ length out.old) }
-    ensures count { result ≡ length (screen_of (take reads.done script.now)) }
+// Writes a script's screen to a buffer that has room for every screen, and answers its length.
+#[tactic(auto, using(screen::proofs::Short::has_room, refusal::proofs::Same::told))]
+fn screen(script: &[u8], out: &mut [u8]) -> usize
+    requires { 64538 ≤ length out.old }
+    ensures count { result ≡ length (screen_of script.now) }
     ensures room { result ≤ length out.new }
-    ensures left { out.new ≡ screen_of (take reads.done script.now) ++ drop (length (screen_of (take reads.done script.now))) out.old }
+    ensures left { out.new ≡ screen_of script.now ++ drop (length (screen_of script.now)) out.old }
 {
-    let answer = inspect(&script[..reads.done], out);
-    match answer {
-        Counted::Count(n) => n,
-        Counted::Refused(_) => 0,
-    }
+    inspect(script, out).unwrap_or(0)
+}
+
+// Reads a script, writes its screen to a buffer that has room for every screen, and answers its length. Fails where a read does.
+#[tactic(auto, using(crate::proofs::Reading::shows))]
+fn screen_from<R: Read>(from: &mut R, out: &mut [u8]) -> io::Result<usize>
+    requires { 64538 ≤ length out.old }
+    ensures { IfOk result (λ n. Shows (R.remaining from.old) out.new n) }
+{
+    let mut script = [0u8; MAX_READ];
+    let n = read_in(from, &mut script)?;
+    Ok(screen(&script[..n], out))
 }
 
 // A line on standard error; where that fails too, there is nowhere left to say so.
@@ -77,28 +69,16 @@ fn complain(rt: &impl Eprint, line: &str) {
 
 // Writes all of the screen; a line on standard error where that fails.
 fn print(rt: &(impl Print + Eprint), shown: &[u8]) {
-    if rt.write_all(shown).is_ok() {
-        return;
+    if rt.write_all(shown).is_err() {
+        complain(rt, "inspector: standard output could not be written");
     }
-    complain(rt, "inspector: standard output could not be written");
-}
-
-// The screen of what the reads brought, which have come to the input's end or filled the buffer, and of which none failed.
-fn show(rt: &(impl Print + Eprint), script: &[u8], reads: Reads)
-    requires { Reached (length script.now) reads.done reads.last × Whole (length script.now) reads.done reads.last }
-{
-    let mut out = [0u8; 65536];
-    let n = screen(script, reads, &mut out);
-    print(rt, &out[..n]);
 }
 
 // The screen of the script that can be read there; where a read fails, nothing but a line on standard error.
 pub fn show_from<R: Read>(rt: &(impl Print + Eprint), from: &mut R) {
-    let mut script = [0u8; MAX_READ];
-    let reads = read_in(from, &mut script);
-    if reads.last < 0 {
-        complain(rt, "inspector: standard input could not be read");
-        return;
+    let mut out = [0u8; 65536];
+    match screen_from(from, &mut out) {
+        Ok(n) => print(rt, &out[..n]),
+        Err(_) => complain(rt, "inspector: standard input could not be read"),
     }
-    show(rt, &script, reads);
 }

@@ -12,7 +12,7 @@ ghost use Rattle.hand.specs.Handed.{handed, gives, steps, advances, moved_to, wa
 
 use hand::SHORT_VALUES;
 use opcodes::Class;
-use walk::{Cursor, Found, Mode, Stepped};
+use walk::{Cursor, Found, Instruction, Mode, Stepped};
 
 // How many values a step leaves at most: the place for the next call, and what stands there.
 const STEP_VALUES: usize = 6;
@@ -28,58 +28,51 @@ pub fn mode_of(mode: u32) -> Mode
     }
 }
 
-// Four values, stored.
-fn put_four(values: &mut [u64], a: u64, b: u64, c: u64, d: u64)
-    requires { 6 ≤ length values.old }
-    ensures { values.new ≡ sets values.old 0 (a ∷ (b ∷ (c ∷ (d ∷ [])))) }
+// Values at the slice's front, stored.
+#[tactic(auto, using(laws::proofs::Stored::stored_front))]
+fn put<const N: usize>(values: &mut [u64], row: [u64; N])
+    requires { N ≤ length values.old }
+    ensures { values.new ≡ sets values.old 0 row.entry }
 {
-    values[0] = a;
-    values[1] = b;
-    values[2] = c;
-    values[3] = d;
-}
-
-// Two values behind four, stored.
-fn put_two(values: &mut [u64], e: u64, f: u64)
-    requires { 6 ≤ length values.old }
-    ensures { values.new ≡ sets values.old 4 (e ∷ (f ∷ [])) }
-{
-    values[4] = e;
-    values[5] = f;
+    values[..N].copy_from_slice(&row);
 }
 
 // The place for the next call, and behind it what the walk found or a refusal's values.
+#[tactic(auto, using(hand::proofs::Handing::steps_short))]
 fn step(answer: Stepped, values: &mut [u64]) -> u32
     ensures { handed result values.new ≡ steps answer.next.at (said_found answer.found) values.old }
 {
     if values.len() < STEP_VALUES {
         return SHORT_VALUES;
     }
-    let next = answer.next;
-    let found = answer.found;
-    let to = next.at as u64;
-    match found {
-        Found::End => {
-            values[0] = to;
-            values[1] = 0;
+    let to = answer.next.at as u64;
+    match answer.found {
+        Ok(None) => {
+            put(values, [to, 0]);
             0
         }
-        Found::Opcode { place, code } => {
-            put_four(values, to, 1, place as u64, code as u64);
+        Ok(Some(Instruction::Opcode { place, code })) => {
+            put(values, [to, 1, place as u64, code as u64]);
             0
         }
-        Found::Push {
-            place,
-            form,
-            body,
-            len,
-        } => {
+        Ok(
+            Some(
+                Instruction::Push {
+                    place,
+                    form,
+                    body,
+                    len,
+                },
+            ),
+        ) => {
             let k = opcodes::length_bytes(form);
-            put_four(values, to, 2, place as u64, k as u64);
-            put_two(values, body as u64, len as u64);
+            put(
+                values,
+                [to, 2, place as u64, k as u64, body as u64, len as u64],
+            );
             0
         }
-        Found::Refused(why) => {
+        Err(why) => {
             values[0] = to;
             hand::refusal(why, values, 1)
         }
@@ -93,26 +86,22 @@ fn whole(at: usize, size: usize, code: u8, values: &mut [u64]) -> u32
     ensures { (result ≡ 0) × (values.new ≡ sets values.old 0 ((at + size) ∷ walked_row (found (walked (sort_of code) at code (size - (1 + length_bytes_after (sort_of code))))))) }
 {
     let to = (at + size) as u64;
-    let class = opcodes::classify(code);
-    match class {
+    match opcodes::classify(code) {
         Class::Push(form) => {
             let k = opcodes::length_bytes(form);
-            put_four(values, to, 2, at as u64, k as u64);
-            put_two(values, (at + 1 + k) as u64, (size - (1 + k)) as u64);
-            0
+            let body = (at + 1 + k) as u64;
+            put(
+                values,
+                [to, 2, at as u64, k as u64, body, (size - (1 + k)) as u64],
+            );
         }
-        Class::PushNum => {
-            put_four(values, to, 1, at as u64, code as u64);
-            0
-        }
-        Class::Ordinary => {
-            put_four(values, to, 1, at as u64, code as u64);
-            0
-        }
+        Class::PushNum | Class::Ordinary => put(values, [to, 1, at as u64, code as u64]),
     }
+    0
 }
 
 // What stands at a place.
+#[tactic(auto, using(hand::proofs::Handing::steps_short))]
 pub fn next(script: &[u8], at: usize, mode: u32, values: &mut [u64]) -> u32
     ensures { handed result values.new ≡ steps (next_at (minimal_of mode) script.now at) (walk_says (minimal_of mode) script.now at) values.old }
 {
@@ -122,8 +111,7 @@ pub fn next(script: &[u8], at: usize, mode: u32, values: &mut [u64]) -> u32
     let mode = mode_of(mode);
     let size = walk::whole_size(script, at, mode);
     if size == 0 {
-        let stepped = Cursor { at }.next(script, mode);
-        return step(stepped, values);
+        return step(Cursor { at }.next(script, mode), values);
     }
     whole(at, size, script[at], values)
 }
@@ -133,15 +121,8 @@ fn body_of(answer: Found, values: &mut [u64]) -> u32
     ensures { handed result values.new ≡ gives 2 (body_place (said_found answer) ∷ (body_len (said_found answer) ∷ [])) values.old }
 {
     match answer {
-        Found::Push {
-            place: _,
-            form: _,
-            body,
-            len,
-        } => hand::two(body, len, values),
-        Found::End => hand::two(0, 0, values),
-        Found::Opcode { place: _, code: _ } => hand::two(0, 0, values),
-        Found::Refused(_) => hand::two(0, 0, values),
+        Ok(Some(Instruction::Push { body, len, .. })) => hand::two(body, len, values),
+        _ => hand::two(0, 0, values),
     }
 }
 
@@ -149,9 +130,7 @@ fn body_of(answer: Found, values: &mut [u64]) -> u32
 pub fn body(script: &[u8], at: usize, mode: u32, values: &mut [u64]) -> u32
     ensures { handed result values.new ≡ gives 2 (body_place (walk_says (minimal_of mode) script.now at) ∷ (body_len (walk_says (minimal_of mode) script.now at) ∷ [])) values.old }
 {
-    let stepped = Cursor { at }.next(script, mode_of(mode));
-    let answer = stepped.found;
-    body_of(answer, values)
+    body_of(Cursor { at }.next(script, mode_of(mode)).found, values)
 }
 
 // What stands at a place, and the cursor for the next call: a cursor at that place, lent to the walk and moved on.
@@ -167,6 +146,7 @@ fn moved_on(at: usize, script: &[u8], mode: Mode) -> Stepped
 }
 
 // What stands at a lent place, which is then moved on.
+#[tactic(auto, using(hand::proofs::Handing::steps_short, laws::proofs::Stored::stored_front), unfolding(hand::specs::Handed::advances, hand::specs::Handed::moved_to))]
 pub fn advance(cursor: &mut [u64], script: &[u8], mode: u32, values: &mut [u64]) -> u32
     ensures { (handed result values.new ≡ advances cursor.old (next_at (minimal_of mode) script.now (get_or cursor.old 0 0)) (walk_says (minimal_of mode) script.now (get_or cursor.old 0 0)) values.old) × (cursor.new ≡ moved_to (next_at (minimal_of mode) script.now (get_or cursor.old 0 0)) cursor.old values.old) }
 {
@@ -178,7 +158,6 @@ pub fn advance(cursor: &mut [u64], script: &[u8], mode: u32, values: &mut [u64])
     }
     let at = cursor[0] as usize;
     let stepped = moved_on(at, script, mode_of(mode));
-    let next = stepped.next;
-    cursor[0] = next.at as u64;
+    cursor[0] = stepped.next.at as u64;
     step(stepped, values)
 }

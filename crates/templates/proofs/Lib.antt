@@ -1,4 +1,3 @@
-pub mod Judging
 pub mod Parts
 pub mod Order
 pub mod Spending

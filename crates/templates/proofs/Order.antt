@@ -6,20 +6,6 @@ use Prim.Native.Nat.{ℕ}
 use Rattle.std.specs.Prelude.{if◌then◌else◌}
 use Rattle.templates.specs.Kind.{Kind, p2pkh, p2sh, p2wpkh, p2wsh, p2tr, p2a, witness, p2pk, multisig, opreturn, other, fits, kinds, first_that_fits, kind_of, none_fits, FirstFit}
 
--- the tests down to this list have failed
-pub data Reached (s : List ℕ) : List Kind → Type 0 where
-  start : Reached s kinds
-  over : {k : Kind} {ks : List Kind} → Reached s (k ∷ ks) → fits k s ≡ false → Reached s ks
-
-same : {s : List ℕ} {ks : List Kind} → Reached s ks → first_that_fits ks s ≡ kind_of s
-unfolding kind_of
-same start = refl
-same {s} (over {k} {ks} r e) = ap (λ b. if b then k else first_that_fits ks s) (sym e) ∙ same r
-
--- the next one fits
-pub found : {s : List ℕ} {k : Kind} {ks : List Kind} → Reached s (k ∷ ks) → fits k s ≡ true → k ≡ kind_of s
-found {s} {k} {ks} r e = ap (λ b. if b then k else first_that_fits ks s) (sym e) ∙ same r
-
 unless : {k x : Kind} (j : Kind) (b c : Bool) → (c ≡ true → x ≡ k) → (not b && c) ≡ true → (if b then j else x) ≡ k
 unless j true c f n = cc
 unless j false c f n = f n

@@ -3,7 +3,7 @@ use mathlib.Core.Path.{◌≡◌}
 use mathlib.Core.Logic.{⊎_elim}
 use mathlib.Core.Bool.{Bool, true, false, ◌&&◌}
 use mathlib.Core.List.{List}
-use mathlib.Core.Option.{Option, none, some}
+use Rattle.std.specs.Prelude.{Option, None, Some}
 use Prim.Native.Nat.{ℕ, zero, suc, ◌+◌, ◌-◌, ◌≤◌}
 use native.Mathlib.Omega.{arith}
 use borrow.Author.Tests.{eqb-true}
@@ -22,8 +22,8 @@ use Rattle.laws.proofs.Test.{and_left, either}
 
 module _ (s : List ℕ) where
   abbrev Within : Option Stretch → Type 0
-  Within none = Unit {0}
-  Within (some (stretch start len)) = start + len ≤ length s
+  Within None = Unit {0}
+  Within (Some (stretch start len)) = start + len ≤ length s
 
   abbrev Inside : Said (Option Stretch) → Type 0
   Inside a = start_of a + len_of a ≤ length s
@@ -33,8 +33,8 @@ module _ (s : List ℕ) where
   answered f w = by_test Inside (ltb limit (length s)) (λ e. omega arith) (λ e. go (f s) w)
     where
       go : (o : Option Stretch) → Within o → Inside (answers o)
-      go none w = omega arith
-      go (some (stretch start len)) w = w
+      go None w = omega arith
+      go (Some (stretch start len)) w = w
 
   -- the key
   key_length : (size : ℕ) → is_key_of size s ≡ true → length s ≡ size + 2
@@ -63,12 +63,12 @@ module _ (s : List ℕ) where
           → ((o : Option Stretch) → Within o → Within (last_body o (items (walk_for n false s (next_at false s p)))))
           → Within (last_body before (items (continue a (walk_for n false s (next_at false s p)))))
       go (answers end) g rest = h
-      go (answers (found (opcode place code))) g rest = rest none tt
-      go (answers (found (push place form body len))) g rest = rest (some (stretch body len)) g.fits
+      go (answers (found (opcode place code))) g rest = rest None tt
+      go (answers (found (push place form body len))) g rest = rest (Some (stretch body len)) g.fits
       go (refuses number values) g rest = h
 
   pub redeem_inside : Inside (judges redeem_script s)
   unfolding redeem_script walk_from
   redeem_inside =
       answered redeem_script
-      (by_test Within (unrefused (ending (walk_from false s 0)) && every is_push (items (walk_from false s 0))) (λ e. bodies (suc (length s - 0)) 0 none tt) (λ e. tt))
+      (by_test Within (unrefused (ending (walk_from false s 0)) && every is_push (items (walk_from false s 0))) (λ e. bodies (suc (length s - 0)) 0 None tt) (λ e. tt))

@@ -1,20 +1,20 @@
 -- The script code is stored in three runs: three bytes, the hash, two bytes. Assumes nothing.
 use mathlib.Core.Path.{◌≡◌, refl, sym, ap, ◌∙◌}
-use mathlib.Core.Bool.{Bool, true, false, ◌&&◌}
-use mathlib.Core.Option.{Option, none, some}
+use mathlib.Core.Bool.{true, ◌&&◌}
+use Rattle.std.specs.Prelude.{Option, Some}
 use mathlib.Core.List.{List, [], ◌∷◌, ◌++◌}
 use Prim.Native.Nat.{ℕ, ◌+◌, ◌-◌, ◌≤◌, ◌<◌}
 use native.Mathlib.Omega.{arith}
-use borrow.Author.Tests.{lt-ltb, le-ltb, le-leb, lt-leb, eqb-true}
+use borrow.Author.Tests.{le-ltb, le-leb, lt-leb, eqb-true}
 use lib.Dec.{leb, eqb}
 use lib.ListN.{length, drop, set, length-append, length-drop}
 use lib.Seq.{sets}
 use Rattle.std.specs.Prelude.{if◌then◌else◌}
 use Rattle.laws.specs.Said.{Said, answers, refuses}
-use Rattle.laws.specs.Buffer.{writes, after}
+use Rattle.laws.specs.Buffer.{after}
 use Rattle.laws.proofs.Stored.{stored_both, stored_front}
 use Rattle.refusal.specs.Refusal.{limit}
-use Rattle.fixed.specs.Fixed.{version_of, is_pay_to_witness_pubkey_hash, is_program_of, code_for, script_code, is_witness_program}
+use Rattle.fixed.specs.Fixed.{version_of, is_program_of, code_for, script_code, is_witness_program}
 use Rattle.templates.specs.Says.{as_some, code_says}
 use Rattle.laws.proofs.Test.{and_right}
 
@@ -50,20 +50,7 @@ module _ (s old : List ℕ) where
   abbrev says : Said (Option ℕ)
   says = code_says s (length old)
 
-  -- over the limit
-  pub code_too_long : limit < length s → (refuses 1 [] ≡ says) × (old ≡ after says (script_code s) old)
-  unfolding code_says
-  code_too_long h =
-      let e : refuses 1 [] ≡ says =
-      sym (ap (λ (over : Bool). if over then refuses 1 [] else if is_pay_to_witness_pubkey_hash s then as_some (writes (script_code s) (length old)) else answers none) (lt-ltb limit (length s) h)) in
-      (e, ap (λ said. after said (script_code s) old) e)
-
   module _ (l : length s ≤ limit) where
-    -- no P2WPKH
-    pub code_nothing : is_program_of 0 20 s ≡ false → (answers none ≡ says) × (old ≡ after says (script_code s) old)
-    unfolding code_says script_code
-    code_nothing e = rw (le-ltb limit (length s) l, e) (refl, refl)
-
     module _ (e : is_program_of 0 20 s ≡ true) where
       code_says_lem : says ≡ as_some (if leb 25 (length old) then answers 25 else refuses 7 (25 ∷ []))
       unfolding code_says script_code
@@ -79,5 +66,5 @@ module _ (s old : List ℕ) where
 
       -- all is written
       pub code_written : {new : List ℕ} → 25 ≤ length old → new ≡ code_for (drop 2 s) ++ drop 25 old
-          → (answers (some 25) ≡ says) × (new ≡ after says (script_code s) old)
+          → (answers (Some 25) ≡ says) × (new ≡ after says (script_code s) old)
       code_written h w = rw (code_says_lem, le-leb 25 (length old) h, code_is) (refl, w ∙ ap (λ k. code_for (drop 2 s) ++ drop k old) (sym (code_length s (code_size s e))))

@@ -1,5 +1,5 @@
 // Templates: which of the standard forms a script has, and what stands in it.
-#![tactic(auto)]
+#![tactic(auto, unfolding(crate::specs::Says::judges))]
 
 ghost use Rattle.std.specs.Prelude.{◌≡◌, false, ◌++◌, ◌+◌, ◌≤◌, length, drop};
 ghost use Rattle.laws.specs.Buffer.{after};
@@ -8,12 +8,14 @@ ghost use Rattle.fixed.specs.Fixed.{is_pay_to_pubkey_hash, witness_version, code
 ghost use Rattle.walked.specs.Walked.{redeem_script};
 ghost use Rattle.templates.specs.Kind.{kind_of};
 ghost use Rattle.templates.specs.Says.{judges, pubkey_of, start_of, len_of, code_says};
-ghost use Rattle.templates.specs.Answer.{said_version, said_coded, said_template, said_kind};
+ghost use Rattle.templates.specs.Answer.{said_template};
+ghost use Rattle.refusal.specs.Answer.{said};
+ghost use Rattle.refusal.specs.Answer.{said_by};
 ghost use Rattle.walked.specs.Answer.{said_place};
 
 use fixed::{HASH160_SIZE, HASH256_SIZE};
-use opcodes::{Code, OP_CHECKSIG, OP_DUP, OP_EQUALVERIFY, OP_HASH160};
-use refusal::{MAX_SCRIPT, Refusal};
+use opcodes::{OP_CHECKSIG, OP_DUP, OP_EQUALVERIFY, OP_HASH160};
+use refusal::Refusal;
 
 mod judged;
 
@@ -33,24 +35,8 @@ const HASH_START: usize = 3;
 
 const HASH_END: usize = 23;
 
-// A witness version, 0 to 16.
-#[derive(Clone, Copy)]
-pub enum Version {
-    Is(u8),
-    Nothing,
-    Refused(Refusal),
-}
-
-// How many bytes were written.
-#[derive(Clone, Copy)]
-pub enum Coded {
-    Bytes(usize),
-    Nothing,
-    Refused(Refusal),
-}
-
 // The kinds of script, in the order in which they are tried.
-#[derive(Clone, Copy)]
+#[derive(Clone, Copy, Debug, PartialEq, Eq)]
 pub enum Template {
     P2pkh,
     P2sh,
@@ -65,66 +51,51 @@ pub enum Template {
     Other,
 }
 
-// The kind of a script.
-#[derive(Clone, Copy)]
-pub enum Kinded {
-    Is(Template),
-    Refused(Refusal),
-}
-
 // The witness version of a witness program; nothing for any other script. Refused with 1 for a script over the limit.
-pub fn witness_version(script: &[u8]) -> Version
-    ensures { said_version result ≡ judges witness_version script.now }
+pub fn witness_version(script: &[u8]) -> Result<Option<u8>, Refusal>
+    ensures { said result ≡ judges witness_version script.now }
 {
-    if MAX_SCRIPT < script.len() {
-        return Version::Refused(Refusal::TooLong);
-    }
-    let version = fixed::version(script);
-    match version {
-        Code::Is(v) => Version::Is(v),
-        Code::Nothing => Version::Nothing,
-    }
+    refusal::check_limit(script)?;
+    Ok(fixed::version(script))
 }
 
 // Where the key of a pay-to-pubkey script lies; nothing for any other script. Refused with 1 for a script over the limit.
-pub fn p2pk_key(script: &[u8]) -> Place
-    ensures { said_place result ≡ judges pubkey_of script.now }
+#[tactic(auto, using(crate::proofs::Parts::key_long), unfolding(crate::specs::Says::judges, crate::specs::Says::pubkey_of))]
+pub fn p2pk_key(script: &[u8]) -> Result<Option<Place>, Refusal>
+    ensures { said_by said_place result ≡ judges pubkey_of script.now }
 {
-    if MAX_SCRIPT < script.len() {
-        return Place::Refused(Refusal::TooLong);
-    }
+    refusal::check_limit(script)?;
     if fixed::p2pk(script) {
-        return Place::At {
+        return Ok(Some(Place {
             start: 1,
             len: script.len() - 2,
-        };
+        }));
     }
-    Place::Nothing
+    Ok(None)
 }
 
 // Where the last body of a script of pushes alone lies; nothing for any other script. Refused with 1 for a script over the limit.
-pub fn redeem_script(script: &[u8]) -> Place
-    ensures { said_place result ≡ judges redeem_script script.now }
+pub fn redeem_script(script: &[u8]) -> Result<Option<Place>, Refusal>
+    ensures { said_by said_place result ≡ judges redeem_script script.now }
 {
-    if MAX_SCRIPT < script.len() {
-        return Place::Refused(Refusal::TooLong);
-    }
-    walked::last_push(script)
+    refusal::check_limit(script)?;
+    Ok(walked::last_push(script))
 }
 
 // The bytes at a place, as a part of the script itself; an empty part at its front where there is no place.
-fn part_at<'a>(script: &'a [u8], place: Place) -> &'a [u8]
-    requires { start_of (said_place place) + len_of (said_place place) ≤ length script.now }
-    ensures { Part result script.entry (start_of (said_place place)) (len_of (said_place place)) }
+fn part_at<'a>(script: &'a [u8], place: Result<Option<Place>, Refusal>) -> &'a [u8]
+    requires { start_of (said_by said_place place) + len_of (said_by said_place place) ≤ length script.now }
+    ensures { Part result script.entry (start_of (said_by said_place place)) (len_of (said_by said_place place)) }
 {
     match place {
-        Place::At { start, len } => &script[start..start + len],
-        Place::Nothing => &script[0..0],
-        Place::Refused(_) => &script[0..0],
+        Ok(Some(Place { start, len })) => &script[start..start + len],
+        Ok(None) => &script[..0],
+        Err(_) => &script[..0],
     }
 }
 
 // The key of a pay-to-pubkey script, as a part of the caller's own bytes; empty for any other script and for one over the limit.
+#[tactic(auto, using(crate::proofs::Parts::key_inside))]
 pub fn p2pk_key_part<'a>(script: &'a [u8]) -> &'a [u8]
     ensures { Part result script.entry (start_of (judges pubkey_of script.now)) (len_of (judges pubkey_of script.now)) }
 {
@@ -132,6 +103,7 @@ pub fn p2pk_key_part<'a>(script: &'a [u8]) -> &'a [u8]
 }
 
 // The last body of a script of pushes alone, as a part of the caller's own bytes; empty for any other script and for one over the limit.
+#[tactic(auto, using(crate::proofs::Parts::redeem_inside))]
 pub fn redeem_part<'a>(script: &'a [u8]) -> &'a [u8]
     ensures { Part result script.entry (start_of (judges redeem_script script.now)) (len_of (judges redeem_script script.now)) }
 {
@@ -153,24 +125,24 @@ fn write_script_code(script: &[u8], out: &mut [u8])
 
 // Writes the script code by which a P2WPKH script is spent, and answers its length; nothing for any other script. Refused with 1 for a script
 // over the limit, and with 7 and the bytes needed where the buffer is shorter than the code; a refused call leaves the buffer.
-pub fn p2wpkh_script_code(script: &[u8], out: &mut [u8]) -> Coded
-    ensures { (said_coded result ≡ code_says script.now (length out.old)) × (out.new ≡ after (code_says script.now (length out.old)) (script_code script.now) out.old) }
+#[tactic(auto, using(crate::proofs::Spending::code_size), unfolding(crate::specs::Says::code_says, fixed::specs::Fixed::script_code))]
+pub fn p2wpkh_script_code(script: &[u8], out: &mut [u8]) -> Result<Option<usize>, Refusal>
+    ensures { (said result ≡ code_says script.now (length out.old)) × (out.new ≡ after (code_says script.now (length out.old)) (script_code script.now) out.old) }
 {
-    if MAX_SCRIPT < script.len() {
-        return Coded::Refused(Refusal::TooLong);
-    }
+    refusal::check_limit(script)?;
     if fixed::program(script, 0, HASH160_SIZE) {
         if out.len() < SCRIPT_CODE_SIZE {
-            return Coded::Refused(Refusal::NoRoom(SCRIPT_CODE_SIZE));
+            return Err(Refusal::NoRoom(SCRIPT_CODE_SIZE));
         }
         write_script_code(script, out);
-        return Coded::Bytes(SCRIPT_CODE_SIZE);
+        return Ok(Some(SCRIPT_CODE_SIZE));
     }
-    Coded::Nothing
+    Ok(None)
 }
 
 // The first kind that fits a script that pays to no hash of a public key. Tests of a few bytes come before the one walk, which leaves at the first
 // byte unless that is a number opcode.
+#[tactic(auto, unfolding(crate::specs::Kind::kind_of))]
 fn later_template(s: &[u8]) -> Template
     requires { is_pay_to_pubkey_hash s.now ≡ false }
     ensures { said_template result ≡ kind_of s.now }
@@ -206,6 +178,7 @@ fn later_template(s: &[u8]) -> Template
 }
 
 // The first kind that fits. The most frequent one has its test here, where a caller's code can take it in.
+#[tactic(auto, unfolding(crate::specs::Kind::kind_of))]
 fn template_of(s: &[u8]) -> Template
     ensures { said_template result ≡ kind_of s.now }
 {
@@ -216,12 +189,9 @@ fn template_of(s: &[u8]) -> Template
 }
 
 // The kind of a script. Refused with 1 for a script over the limit.
-pub fn kind(script: &[u8]) -> Kinded
-    ensures { said_kind result ≡ judges kind_of script.now }
+pub fn kind(script: &[u8]) -> Result<Template, Refusal>
+    ensures { said_by said_template result ≡ judges kind_of script.now }
 {
-    if MAX_SCRIPT < script.len() {
-        return Kinded::Refused(Refusal::TooLong);
-    }
-    let template = template_of(script);
-    Kinded::Is(template)
+    refusal::check_limit(script)?;
+    Ok(template_of(script))
 }

@@ -1,50 +1,28 @@
 // Prints what the template entries answer at the edges of their inputs, one line for each script.
+// A group of inputs is a function of its own: the groups differ in what they ask, and a table over all of them would have rows of unlike sorts.
 #![tactic(auto)]
 
+use refusal::Refusal;
 use std::io;
-use templates::{Coded, Kinded, Place, Template, Version};
-
-fn template_name(rt: &impl Print, template: Template) -> io::Result<()> {
-    match template {
-        Template::P2pkh => show::text(rt, b" p2pkh"),
-        Template::P2sh => show::text(rt, b" p2sh"),
-        Template::P2wpkh => show::text(rt, b" p2wpkh"),
-        Template::P2wsh => show::text(rt, b" p2wsh"),
-        Template::P2tr => show::text(rt, b" p2tr"),
-        Template::P2a => show::text(rt, b" p2a"),
-        Template::Witness => show::text(rt, b" witness"),
-        Template::P2pk => show::text(rt, b" p2pk"),
-        Template::Multisig => show::text(rt, b" multisig"),
-        Template::OpReturn => show::text(rt, b" opreturn"),
-        Template::Other => show::text(rt, b" other"),
-    }
-}
+use templates::Place;
 
 fn kind(rt: &impl Print, script: &[u8]) -> io::Result<()> {
-    let kinded = templates::kind(script);
-    match kinded {
-        Kinded::Is(template) => template_name(rt, template),
-        Kinded::Refused(r) => show::refused(rt, r),
-    }
+    show::answer(rt, templates::kind(script))
 }
 
 fn version(rt: &impl Print, script: &[u8]) -> io::Result<()> {
-    let found = templates::witness_version(script);
-    match found {
-        Version::Is(v) => show::named(rt, b"version", v as usize),
-        Version::Nothing => show::text(rt, b" version nothing"),
-        Version::Refused(r) => show::refused(rt, r),
+    match templates::witness_version(script) {
+        Ok(Some(v)) => show::named(rt, b"version", v as usize),
+        Ok(None) => show::text(rt, b" version nothing"),
+        Err(r) => show::refused(rt, r),
     }
 }
 
-fn place(rt: &impl Print, found: Place, part: &[u8]) -> io::Result<()> {
+fn place(rt: &impl Print, found: Result<Option<Place>, Refusal>, part: &[u8]) -> io::Result<()> {
     match found {
-        Place::At { start, len } => {
-            show::named(rt, b"at", start)?;
-            show::named(rt, b"of", len)?;
-        }
-        Place::Nothing => show::text(rt, b" nothing")?,
-        Place::Refused(r) => show::refused(rt, r)?,
+        Ok(Some(Place { start, len })) => print!(rt; " at {start} of {len}")?,
+        Ok(None) => show::text(rt, b" nothing")?,
+        Err(r) => show::refused(rt, r)?,
     }
     show::text(rt, b" [")?;
     show::hex(rt, part)?;
@@ -66,32 +44,24 @@ fn places(rt: &impl Print, script: &[u8]) -> io::Result<()> {
     )
 }
 
-fn fixed_answers(rt: &impl Print, script: &[u8]) -> io::Result<()> {
-    show::text(rt, b" p2pkh")?;
-    show::judged(rt, templates::is_p2pkh(script))?;
-    show::text(rt, b" p2sh")?;
-    show::judged(rt, templates::is_p2sh(script))?;
-    show::text(rt, b" p2wpkh")?;
-    show::judged(rt, templates::is_p2wpkh(script))?;
-    show::text(rt, b" p2wsh")?;
-    show::judged(rt, templates::is_p2wsh(script))?;
-    show::text(rt, b" p2tr")?;
-    show::judged(rt, templates::is_p2tr(script))?;
-    show::text(rt, b" p2a")?;
-    show::judged(rt, templates::is_p2a(script))?;
-    show::text(rt, b" witness")?;
-    show::judged(rt, templates::is_witness_program(script))?;
-    show::text(rt, b" p2pk")?;
-    show::judged(rt, templates::is_p2pk(script))?;
-    show::text(rt, b" opreturn")?;
-    show::judged(rt, templates::is_op_return(script))
-}
-
-fn walked_answers(rt: &impl Print, script: &[u8]) -> io::Result<()> {
-    show::text(rt, b" multisig")?;
-    show::judged(rt, templates::is_multisig(script))?;
-    show::text(rt, b" pushonly")?;
-    show::judged(rt, templates::is_push_only(script))
+fn judgements(rt: &impl Print, script: &[u8]) -> io::Result<()> {
+    for (name, answer) in [
+        ("p2pkh", templates::is_p2pkh(script)),
+        ("p2sh", templates::is_p2sh(script)),
+        ("p2wpkh", templates::is_p2wpkh(script)),
+        ("p2wsh", templates::is_p2wsh(script)),
+        ("p2tr", templates::is_p2tr(script)),
+        ("p2a", templates::is_p2a(script)),
+        ("witness", templates::is_witness_program(script)),
+        ("p2pk", templates::is_p2pk(script)),
+        ("opreturn", templates::is_op_return(script)),
+        ("multisig", templates::is_multisig(script)),
+        ("pushonly", templates::is_push_only(script)),
+    ] {
+        print!(rt; " {name}")?;
+        show::answer(rt, answer)?;
+    }
+    Ok(())
 }
 
 // Every answer for one script.
@@ -105,70 +75,60 @@ fn all(rt: &impl Print, script: &[u8]) -> io::Result<()> {
     kind(rt, script)?;
     version(rt, script)?;
     places(rt, script)?;
-    fixed_answers(rt, script)?;
-    walked_answers(rt, script)?;
+    judgements(rt, script)?;
     show::line_end(rt)
 }
 
 // The bytes of a frame for scripts of up to 70 bytes.
 fn put(s: &mut [u8; 70], i: usize, byte: u8) {
-    if i < 70 {
-        s[i] = byte;
+    if let Some(slot) = s.get_mut(i) {
+        *slot = byte;
     }
 }
 
 fn put_back(s: &mut [u8; 70], n: usize, back: usize, byte: u8) {
-    if back <= n {
-        put(s, n - back, byte);
+    if let Some(i) = n.checked_sub(back) {
+        put(s, i, byte);
     }
 }
 
 // The first n bytes, or all where there are fewer.
 fn front(s: &[u8], n: usize) -> &[u8] {
-    if n <= s.len() {
-        return &s[..n];
-    }
-    s
-}
-
-fn front_kind(rt: &impl Print, s: &[u8; 70], n: usize) -> io::Result<()> {
-    kind(rt, front(s, n))
+    s.get(..n).unwrap_or(s)
 }
 
 // The kind of n bytes that start and end so, with 0x77 between.
-fn framed(rt: &impl Print, n: usize, a: u8, b: u8, c: u8, y: u8, z: u8) -> io::Result<()> {
+fn framed(rt: &impl Print, n: usize, start: [u8; 3], end: [u8; 2]) -> io::Result<()> {
     let mut s = [0x77u8; 70];
-    put(&mut s, 0, a);
-    put(&mut s, 1, b);
-    put(&mut s, 2, c);
-    put_back(&mut s, n, 2, y);
-    put_back(&mut s, n, 1, z);
-    front_kind(rt, &s, n)
+    put(&mut s, 0, start[0]);
+    put(&mut s, 1, start[1]);
+    put(&mut s, 2, start[2]);
+    put_back(&mut s, n, 2, end[0]);
+    put_back(&mut s, n, 1, end[1]);
+    kind(rt, front(&s, n))
 }
 
 // Two less than n, as a byte.
 fn size(n: usize) -> u8 {
-    if n < 2 {
-        return 0;
-    }
-    if 70 < n {
-        return 0;
-    }
-    (n - 2) as u8
+    u8::try_from(n.saturating_sub(2)).unwrap_or(0)
 }
 
 // The frames of the fixed templates at one length: each is its kind at its own lengths alone.
 fn length_line(rt: &impl Print, n: usize) -> io::Result<()> {
     show::named(rt, b"bytes", n)?;
     show::text(rt, b":")?;
-    framed(rt, n, 0x76, 0xa9, 0x14, 0x88, 0xac)?;
-    framed(rt, n, 0xa9, 0x14, 0x77, 0x77, 0x87)?;
-    framed(rt, n, 0x00, size(n), 0x77, 0x77, 0x77)?;
-    framed(rt, n, 0x51, size(n), 0x77, 0x77, 0x77)?;
-    framed(rt, n, 0x60, size(n), 0x77, 0x77, 0x77)?;
-    framed(rt, n, 0x51, 0x02, 0x4e, 0x4e, 0x73)?;
-    framed(rt, n, size(n), 0x77, 0x77, 0x77, 0xac)?;
-    framed(rt, n, 0x6a, 0x77, 0x77, 0x77, 0x77)?;
+    for (start, end) in [
+        ([0x76, 0xa9, 0x14], [0x88, 0xac]),
+        ([0xa9, 0x14, 0x77], [0x77, 0x87]),
+        ([0x00, size(n), 0x77], [0x77, 0x77]),
+        ([0x51, size(n), 0x77], [0x77, 0x77]),
+        ([0x60, size(n), 0x77], [0x77, 0x77]),
+        ([0x51, 0x02, 0x4e], [0x4e, 0x73]),
+        ([size(n), 0x77, 0x77], [0x77, 0xac]),
+        ([0x6a, 0x77, 0x77], [0x77, 0x77]),
+    ] {
+        framed(rt, n, start, end)?;
+    }
     show::line_end(rt)
 }
 
@@ -197,60 +157,80 @@ fn keys_line(rt: &impl Print, keys: usize, count: u8) -> io::Result<()> {
 
 // Key counts around the number opcodes and around 255, each with a number opcode and with another one.
 fn keys(rt: &impl Print) -> io::Result<()> {
-    keys_line(rt, 0, 0x51)?;
-    keys_line(rt, 0, 0x4f)?;
-    keys_line(rt, 1, 0x51)?;
-    keys_line(rt, 1, 0x52)?;
-    keys_line(rt, 1, 0x4f)?;
-    keys_line(rt, 16, 0x60)?;
-    keys_line(rt, 16, 0x5f)?;
-    keys_line(rt, 17, 0x60)?;
-    keys_line(rt, 17, 0x4f)?;
-    keys_line(rt, 255, 0x4f)?;
-    keys_line(rt, 256, 0x4f)?;
-    keys_line(rt, 257, 0x4f)?;
-    keys_line(rt, 257, 0x51)
+    for (keys, count) in [
+        (0, 0x51),
+        (0, 0x4f),
+        (1, 0x51),
+        (1, 0x52),
+        (1, 0x4f),
+        (16, 0x60),
+        (16, 0x5f),
+        (17, 0x60),
+        (17, 0x4f),
+        (255, 0x4f),
+        (256, 0x4f),
+        (257, 0x4f),
+        (257, 0x51),
+    ] {
+        keys_line(rt, keys, count)?;
+    }
+    Ok(())
 }
 
 fn multisigs(rt: &impl Print) -> io::Result<()> {
-    all(rt, b"\x51\x01\xaa\x4f\xae")?;
-    all(rt, b"\x51\x01\xaa\x6a\xae")?;
-    all(rt, b"\x51\x01\xaa\xae\xae")?;
-    all(rt, b"\x51\x01\xaa\x00\xae")?;
-    all(rt, b"\x52\x01\xaa\x51\xae")?;
-    all(rt, b"\x51\x01\xaa\x51\xae\x51")?;
-    all(rt, b"\x51\x01\xaa\x51\xaf")?;
-    all(rt, b"\x51\x00\x51\xae")?;
-    all(rt, b"\x50\x01\xaa\x51\xae")?;
-    all(rt, b"\x51\x01\xaa\x51\xae\x01")
+    for script in [
+        b"\x51\x01\xaa\x4f\xae".as_slice(),
+        b"\x51\x01\xaa\x6a\xae",
+        b"\x51\x01\xaa\xae\xae",
+        b"\x51\x01\xaa\x00\xae",
+        b"\x52\x01\xaa\x51\xae",
+        b"\x51\x01\xaa\x51\xae\x51",
+        b"\x51\x01\xaa\x51\xaf",
+        b"\x51\x00\x51\xae",
+        b"\x50\x01\xaa\x51\xae",
+        b"\x51\x01\xaa\x51\xae\x01",
+    ] {
+        all(rt, script)?;
+    }
+    Ok(())
 }
 
 fn pushes(rt: &impl Print) -> io::Result<()> {
-    all(rt, b"\x50")?;
-    all(rt, b"\x60")?;
-    all(rt, b"\x61")?;
-    all(rt, b"\x4f\x00\x01\x61")
+    for script in [b"\x50".as_slice(), b"\x60", b"\x61", b"\x4f\x00\x01\x61"] {
+        all(rt, script)?;
+    }
+    Ok(())
 }
 
 fn redeems(rt: &impl Print) -> io::Result<()> {
-    all(rt, b"")?;
-    all(rt, b"\x00")?;
-    all(rt, b"\x51")?;
-    all(rt, b"\x01")?;
-    all(rt, b"\x01\xaa")?;
-    all(rt, b"\x01\xaa\x4c\x02\xbb\xcc")?;
-    all(rt, b"\x01\xaa\x4c\x02\xbb")?;
-    all(rt, b"\x02\xbb\xcc\x51")?;
-    all(rt, b"\x01\xaa\x00")
+    for script in [
+        b"".as_slice(),
+        b"\x00",
+        b"\x51",
+        b"\x01",
+        b"\x01\xaa",
+        b"\x01\xaa\x4c\x02\xbb\xcc",
+        b"\x01\xaa\x4c\x02\xbb",
+        b"\x02\xbb\xcc\x51",
+        b"\x01\xaa\x00",
+    ] {
+        all(rt, script)?;
+    }
+    Ok(())
 }
 
 fn anchors(rt: &impl Print) -> io::Result<()> {
-    all(rt, b"\x51\x02\x4e\x73")?;
-    all(rt, b"\x51\x02\x4e\x74")?;
-    all(rt, b"\x00\x02\x4e\x73")?;
-    all(rt, b"\x61\x02\x4e\x73")?;
-    all(rt, b"\x6a")?;
-    all(rt, b"\x6a\x61")
+    for script in [
+        b"\x51\x02\x4e\x73".as_slice(),
+        b"\x51\x02\x4e\x74",
+        b"\x00\x02\x4e\x73",
+        b"\x61\x02\x4e\x73",
+        b"\x6a",
+        b"\x6a\x61",
+    ] {
+        all(rt, script)?;
+    }
+    Ok(())
 }
 
 fn code_line(rt: &impl Print, script: &[u8], out: &mut [u8]) -> io::Result<()> {
@@ -259,9 +239,9 @@ fn code_line(rt: &impl Print, script: &[u8], out: &mut [u8]) -> io::Result<()> {
     show::text(rt, b":")?;
     let coded = templates::p2wpkh_script_code(script, out);
     match coded {
-        Coded::Bytes(n) => show::named(rt, b"bytes", n)?,
-        Coded::Nothing => show::text(rt, b" nothing")?,
-        Coded::Refused(r) => show::refused(rt, r)?,
+        Ok(Some(n)) => show::named(rt, b"bytes", n)?,
+        Ok(None) => show::text(rt, b" nothing")?,
+        Err(r) => show::refused(rt, r)?,
     }
     show::hex(rt, out)?;
     show::line_end(rt)

@@ -1,3 +1,2 @@
-pub mod Room
 pub mod Stored
 pub mod Settled

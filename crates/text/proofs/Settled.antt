@@ -1,9 +1,11 @@
 -- Each entry is settled: two outcomes that its contract permits for one input are equal. Assumes nothing.
 use mathlib.Core.Path.{◌≡◌}
 use Rattle.laws.proofs.Settled.{settled, same_value}
-use Rattle.refusal.specs.declared.Counted.{Counted}
-use Rattle.refusal.proofs.Same.{same_count}
+use Rattle.refusal.proofs.Same.{same_answer}
 use Rattle.text.proofs.write_asm.Reads as write-asm
+use Rattle.refusal.specs.declared.Refusal.{Refusal}
+use Rattle.std.specs.Prelude.{Result}
+use Prim.Native.Nat.{ℕ}
 
-pub write_asm_settled : (κs : _) (a : _) (r t : Counted) (s u : _) → write-asm.Post κs a r s → write-asm.Post κs a t u → (r ≡ t) × (s.1.0.now ≡ u.1.0.now)
-write_asm_settled κs a r t s u p q = (settled same_count r t p.0 q.0, same_value p.1 q.1)
+pub write_asm_settled : (κs : _) (a : _) (r t : Result ℕ Refusal) (s u : _) → write-asm.Post κs a r s → write-asm.Post κs a t u → (r ≡ t) × (s.1.0.now ≡ u.1.0.now)
+write_asm_settled κs a r t s u p q = (settled same_answer r t p.0 q.0, same_value p.1 q.1)

@@ -1,11 +1,14 @@
-// Each part of an instruction's text, stored in a buffer from a place on that has room for it.
+// Each part of an instruction's text, stored in a buffer from a place on that has room for it. The two go side by side: what a struct with the buffer in it
+// leaves behind is told to a proof only under names that may change.
 ghost use Rattle.std.specs.Prelude.{◌≡◌, ◌+◌, ◌≤◌, ◌<◌, length};
 ghost use Rattle.std.proofs.lemmas.List.Edits.{sets};
 ghost use Rattle.pool.specs.Text.{text};
-ghost use Rattle.pool.specs.Pool.{pool_of_names, starts_of_names, lengths_of_names};
 ghost use Rattle.asm.specs.Asm.{hex_digit, hex, opcode_text, data_text, space_at};
 
+use names::Names;
+
 // Stores bytes from n on; the place behind them.
+#[tactic(auto, using(copying::proofs::Whole::part_copied, laws::proofs::Stored::to_end_lem))]
 fn put_bytes(out: &mut [u8], n: usize, piece: &[u8]) -> usize
     requires { n + length piece.now ≤ length out.old }
     ensures next { result ≡ n + length piece.now }
@@ -27,24 +30,23 @@ fn hex_digit(half: u8) -> u8
 }
 
 // Stores bytes in hex from n on; the place behind them.
+#[tactic(auto, using(asm::proofs::Sizes::hex_length), unfolding(asm::specs::Asm::hex))]
 fn put_hex(out: &mut [u8], n: usize, bytes: &[u8]) -> usize
     requires { n + length (hex bytes.now) ≤ length out.old }
     ensures next { result ≡ n + length (hex bytes.now) }
     ensures left { out.new ≡ sets out.old n (hex bytes.now) }
 {
     let mut m = n;
-    let mut i: usize = 0;
-    while i < bytes.len() {
-        let b = bytes[i];
-        out[m] = hex_digit(b / 16);
-        out[m + 1] = hex_digit(b % 16);
+    for b in bytes {
+        out[m] = hex_digit(*b / 16);
+        out[m + 1] = hex_digit(*b % 16);
         m += 2;
-        i += 1;
     }
     m
 }
 
 // Stores the space before the instruction at `at`, where there is one; the place behind it.
+#[tactic(auto, unfolding(asm::specs::Asm::space_at))]
 pub(crate) fn put_space(out: &mut [u8], n: usize, at: usize) -> usize
     requires { n + length (space_at at) ≤ length out.old }
     ensures next { result ≡ n + length (space_at at) }
@@ -58,25 +60,20 @@ pub(crate) fn put_space(out: &mut [u8], n: usize, at: usize) -> usize
 }
 
 // Stores the name of an opcode; the place behind it.
-pub(crate) fn put_opcode(
-    out: &mut [u8],
-    n: usize,
-    pool: &[u8],
-    starts: &[u16; 256],
-    lengths: &[u8; 256],
-    code: u8,
-) -> usize
-    requires { (n + length (opcode_text code) ≤ length out.old) × (pool.now ≡ pool_of_names) × (starts.now ≡ starts_of_names) × (lengths.now ≡ lengths_of_names) }
+#[tactic(auto, unfolding(asm::specs::Asm::opcode_text))]
+pub(crate) fn put_opcode(out: &mut [u8], n: usize, names: &Names, code: u8) -> usize
+    requires { n + length (opcode_text code) ≤ length out.old }
     ensures next { result ≡ n + length (opcode_text code) }
     ensures left { out.new ≡ sets out.old n (opcode_text code) }
 {
     if code == 0 {
         return put_bytes(out, n, b"OP_0");
     }
-    put_bytes(out, n, names::name_in(pool, starts, lengths, code))
+    put_bytes(out, n, names.name(code))
 }
 
 // Stores a push's data, a space before them; nothing for no data. The place behind them.
+#[tactic(auto, unfolding(asm::specs::Asm::data_text))]
 pub(crate) fn put_data(out: &mut [u8], n: usize, bytes: &[u8]) -> usize
     requires { n + length (data_text bytes.now) ≤ length out.old }
     ensures next { result ≡ n + length (data_text bytes.now) }

@@ -11,7 +11,7 @@ use contract.Monad.{Fun, fact, fact_i, fact_use}
 use denote.Triple.Clauses.{AtExit}
 use denote.Triple.Entry.{Args}
 use Rattle.laws.proofs.Settled.{settled, same_value}
-use Rattle.walk.specs.declared.Found.{Found}
+use Rattle.walk.proofs.Turn.{Found}
 use Rattle.walk.proofs.Settled.{same_found}
 use Rattle.walk.specs.contracts.lent.advance as advance
 

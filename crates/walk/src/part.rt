@@ -5,34 +5,16 @@ ghost use Rattle.script.specs.Walk.{walk_says};
 ghost use Rattle.walk.specs.Answer.{is_minimal};
 ghost use Rattle.walk.specs.Steps.{Spans};
 
-use crate::{Cursor, Found, Mode};
-
-// Where a part lies.
-#[derive(Clone, Copy)]
-struct Span {
-    start: usize,
-    end: usize,
-}
+use crate::{Cursor, Instruction, Mode};
+use std::ops::Range;
 
 // Where the body of the push at the cursor lies; nothing at the front where there is none.
-fn body_span(script: &[u8], cursor: Cursor, mode: Mode) -> Span
+fn body_span(script: &[u8], cursor: Cursor, mode: Mode) -> Range<usize>
     ensures { Spans (walk_says (is_minimal mode) script.now cursor.at) (length script.now) result.start result.end }
 {
-    let stepped = cursor.next(script, mode);
-    let found = stepped.found;
-    match found {
-        Found::Push {
-            place: _,
-            form: _,
-            body,
-            len,
-        } => Span {
-            start: body,
-            end: body + len,
-        },
-        Found::End => Span { start: 0, end: 0 },
-        Found::Opcode { place: _, code: _ } => Span { start: 0, end: 0 },
-        Found::Refused(_) => Span { start: 0, end: 0 },
+    match cursor.next(script, mode).found {
+        Ok(Some(Instruction::Push { body, len, .. })) => body..body + len,
+        _ => 0..0,
     }
 }
 
@@ -40,8 +22,5 @@ fn body_span(script: &[u8], cursor: Cursor, mode: Mode) -> Span
 pub fn body<'a>(script: &'a [u8], cursor: Cursor, mode: Mode) -> &'a [u8]
     ensures { Part result script.entry (body_place (walk_says (is_minimal mode) script.now cursor.at)) (body_len (walk_says (is_minimal mode) script.now cursor.at)) }
 {
-    let span = body_span(script, cursor, mode);
-    let start = span.start;
-    let end = span.end;
-    &script[start..end]
+    &script[body_span(script, cursor, mode)]
 }

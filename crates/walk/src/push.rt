@@ -3,11 +3,11 @@ ghost use Rattle.std.specs.Prelude.{◌≡◌, ◌+◌, ◌≤◌, ◌<◌, leng
 ghost use Rattle.opcodes.specs.Opcode.{sort_of, push, said_form};
 ghost use Rattle.refusal.specs.Refusal.{limit};
 ghost use Rattle.script.specs.Script.{read_le};
-ghost use Rattle.script.specs.Walk.{walk_says, next_at, size_said};
+ghost use Rattle.script.specs.Walk.{walk_says, next_at};
 ghost use Rattle.walk.specs.Answer.{said_found, is_minimal};
 ghost use Rattle.script.specs.Steps.{stated, is_number, too_short};
 
-use crate::{Cursor, Found, Mode, Stepped};
+use crate::{Cursor, Instruction, Mode, Stepped};
 use opcodes::Form;
 use refusal::Refusal;
 
@@ -27,10 +27,8 @@ fn read_le(s: &[u8], p: usize, k: usize) -> usize
     ensures { result ≡ read_le k s.now p }
 {
     let mut n = 0;
-    let mut i = k;
-    while 0 < i {
-        i -= 1;
-        n = n * 256 + (s[p + i] as usize);
+    for i in (0..k).rev() {
+        n = n * 256 + usize::from(s[p + i]);
     }
     n
 }
@@ -41,7 +39,7 @@ fn stated_len(s: &[u8], at: usize, k: usize) -> usize
     ensures { result ≡ stated k s.now at }
 {
     if k == 0 {
-        s[at] as usize
+        usize::from(s[at])
     } else {
         read_le(s, at + 1, k)
     }
@@ -79,6 +77,7 @@ fn is_too_short(mode: Mode, s: &[u8], form: Form, body: usize, len: usize) -> bo
 }
 
 // The push at `at`, where an opcode of this form stands: the length bytes first, then minimality, then the body.
+#[inline]
 pub(crate) fn push_at(s: &[u8], at: usize, form: Form, mode: Mode) -> Stepped
     requires { (length s.now ≤ limit) × (at < length s.now) × (sort_of (get_or s.now at 0) ≡ push (said_form form)) }
     ensures { (said_found result.found ≡ walk_says (is_minimal mode) s.now at) × (result.next.at ≡ next_at (is_minimal mode) s.now at) }
@@ -88,51 +87,30 @@ pub(crate) fn push_at(s: &[u8], at: usize, form: Form, mode: Mode) -> Stepped
     let body = at + 1 + k;
     if n < body {
         return Stepped {
-            found: Found::Refused(Refusal::LengthCut(at, body - n)),
+            found: Err(Refusal::LengthCut(at, body - n)),
             next: Cursor { at: n },
         };
     }
     let len = stated_len(s, at, k);
     if is_too_short(mode, s, form, body, len) {
         return Stepped {
-            found: Found::Refused(Refusal::NonMinimal(at)),
+            found: Err(Refusal::NonMinimal(at)),
             next: Cursor { at: n },
         };
     }
     if n - body < len {
         return Stepped {
-            found: Found::Refused(Refusal::BodyCut(at, len - (n - body))),
+            found: Err(Refusal::BodyCut(at, len - (n - body))),
             next: Cursor { at: n },
         };
     }
     Stepped {
-        found: Found::Push {
+        found: Ok(Some(Instruction::Push {
             place: at,
             form,
             body,
             len,
-        },
+        })),
         next: Cursor { at: body + len },
     }
-}
-
-// The size of the push at `at`, by the same tests; 0 where one of them fails. A number alone: what is built on it keeps to registers.
-pub(crate) fn push_size(s: &[u8], at: usize, form: Form, mode: Mode) -> usize
-    requires { (length s.now ≤ limit) × (at < length s.now) × (sort_of (get_or s.now at 0) ≡ push (said_form form)) }
-    ensures { result ≡ size_said (walk_says (is_minimal mode) s.now at) }
-{
-    let n = s.len();
-    let k = opcodes::length_bytes(form);
-    let body = at + 1 + k;
-    if n < body {
-        return 0;
-    }
-    let len = stated_len(s, at, k);
-    if is_too_short(mode, s, form, body, len) {
-        return 0;
-    }
-    if n - body < len {
-        return 0;
-    }
-    1 + k + len
 }

@@ -2,7 +2,7 @@
 use mathlib.Core.Path.{◌≡◌, refl, sym, ap, ◌∙◌}
 use mathlib.Core.Bool.{Bool, true, false}
 use mathlib.Core.List.{List}
-use mathlib.Core.Option.{Option, none, some}
+use Rattle.std.specs.Prelude.{Option, None, Some}
 use Prim.Native.Nat.{ℕ}
 use lib.ListN.{get_or}
 use Rattle.laws.specs.Said.{Said, answers, refuses}
@@ -18,8 +18,8 @@ abbrev pub first : ℕ → Run → Bool
 first code rest = number_then (λ m. keys_then m rest) (pushnum_of code)
 
 no_number : (o : Option ℕ) (f : ℕ → Bool) → number_then (λ m. true) o ≡ false → number_then f o ≡ false
-no_number none f e = refl
-no_number (some m) f e = cc
+no_number None f e = refl
+no_number (Some m) f e = cc
 
 module _ (s : List ℕ) (n : number_then (λ m. true) (pushnum_of (get_or s 0 0)) ≡ false) where
   by_answer : (a : Said Walked) → walk_says false s 0 ≡ a → is_multisig s ≡ false

@@ -1,15 +1,27 @@
 -- What each instruction of a walk decides for the templates that are read off it. Assumes nothing.
-use mathlib.Core.Path.{◌≡◌}
-use mathlib.Core.Bool.{false, ◌&&◌, and-false}
-use mathlib.Core.Option.{Option, none}
+use mathlib.Core.Path.{◌≡◌, refl}
+use mathlib.Core.Bool.{Bool, true, false, not, ◌&&◌, and-false}
+use Rattle.std.specs.Prelude.{Option, None, Some, Ok, is_some}
+use Rattle.walk.specs.Answer.{said_found}
+use Rattle.walk.specs.declared.Instruction.{Instruction}
+use Rattle.walk.specs.declared.Instruction.TheVariants.{Opcode, Push}
 use Prim.Native.Nat.{ℕ, ◌≤◌, ◌<◌}
 use borrow.Author.Tests.{le-leb, lt-leb}
 use lib.Dec.{leb}
 use Rattle.laws.specs.Said.{Said}
 use Rattle.opcodes.specs.Opcode.{pushnum_of}
 use Rattle.script.specs.Walk.{Walked, opcode}
-use Rattle.script.specs.Run.{Run, stop, item}
-use Rattle.walked.specs.Walked.{push_only_run, Stretch, redeem_run, pushes, after_pushes, agrees, checks, keys_then}
+use Rattle.script.specs.Run.{Run, stop, item, continue}
+use Rattle.walked.specs.Walked.{is_end, push_only_run, Stretch, redeem_run, pushes, after_pushes, agrees, checks, keys_then}
+
+-- a walk ends where it finds no instruction
+pub ends_if_none : (o : Option Instruction) (rest : Run) (b : Bool) → is_some o ≡ not b → is_end (continue (said_found (Ok o)) rest) ≡ b
+ends_if_none None rest true e = refl
+ends_if_none None rest false e = cc
+ends_if_none (Some (Opcode place code)) rest true e = cc
+ends_if_none (Some (Opcode place code)) rest false e = refl
+ends_if_none (Some (Push place form body len)) rest true e = cc
+ends_if_none (Some (Push place form body len)) rest false e = refl
 
 module _ {run rest : Run} {place code : ℕ} (e : run ≡ item (opcode place code) rest) where
   -- an opcode up to OP_16 leaves a script push only, any other does not
@@ -20,7 +32,7 @@ module _ {run rest : Run} {place code : ℕ} (e : run ≡ item (opcode place cod
   above_op16 h = rw (e, lt-leb code 0x60 h, and-false)
 
   -- with an opcode there is no redeem script
-  pub opcode_redeems : (before : Option Stretch) → redeem_run before run ≡ none
+  pub opcode_redeems : (before : Option Stretch) → redeem_run before run ≡ None
   opcode_redeems before = rw (e, and-false)
 
 module _ (m : ℕ) (run : Run) where

@@ -2,6 +2,7 @@
 use mathlib.Core.Path.{◌≡◌}
 use mathlib.Core.Bool.{Bool}
 use Rattle.laws.proofs.Settled.{settled, same_value}
+use Rattle.std.specs.Prelude.{Option}
 use Rattle.walked.specs.declared.Place.{Place}
 use Rattle.walked.proofs.Same.{same_place}
 use Rattle.walked.proofs.push_only.Reads as push-only
@@ -11,7 +12,7 @@ use Rattle.walked.proofs.multisig.Reads as multisig
 pub push_only_settled : (κs : _) (a : _) (r t : Bool) (s u : _) → push-only.Post κs a r s → push-only.Post κs a t u → r ≡ t
 push_only_settled κs a r t s u = same_value
 
-pub last_push_settled : (κs : _) (a : _) (r t : Place) (s u : _) → last-push.Post κs a r s → last-push.Post κs a t u → r ≡ t
+pub last_push_settled : (κs : _) (a : _) (r t : Option Place) (s u : _) → last-push.Post κs a r s → last-push.Post κs a t u → r ≡ t
 last_push_settled κs a r t s u = settled same_place r t
 
 pub multisig_settled : (κs : _) (a : _) (r t : Bool) (s u : _) → multisig.Post κs a r s → multisig.Post κs a t u → r ≡ t

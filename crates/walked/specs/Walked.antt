@@ -1,6 +1,6 @@
 -- Templates that are read off the plain walk. Assumes nothing.
 use Rattle.std.specs.Prelude.{Bool, true, false, ◌&&◌, List, [], ◌∷◌, ℕ, suc, leb, eqb}
-use Rattle.std.proofs.Math.Option.{Option, none, some}
+use Rattle.std.specs.Prelude.{Option, None, Some}
 use Rattle.std.specs.Prelude.{if◌then◌else◌}
 use Rattle.laws.specs.Said.{Said, answers, refuses}
 use Rattle.opcodes.specs.Core.{OP_16, OP_CHECKMULTISIG}
@@ -46,8 +46,8 @@ is_push (push place form body len) = true
 
 -- where its body lies
 abbrev pub body_of : Item → Option Stretch
-body_of (opcode place code) = none
-body_of (push place form body len) = some (stretch body len)
+body_of (opcode place code) = None
+body_of (push place form body len) = Some (stretch body len)
 
 -- the body of the last instruction; where there is none, what was there before
 abbrev pub last_body : Option Stretch → List Item → Option Stretch
@@ -56,11 +56,11 @@ last_body before (i ∷ is) = last_body (body_of i) is
 
 -- BIP 16, in document 01's words: if the plain walk meets no refusal and gives pushes only and at least one, the last body
 abbrev pub redeem_run : Option Stretch → Run → Option Stretch
-redeem_run before run = if unrefused (ending run) && every is_push (items run) then last_body before (items run) else none
+redeem_run before run = if unrefused (ending run) && every is_push (items run) then last_body before (items run) else None
 
 -- .. of a script, walked from its front; nothing for one without instructions
 unfoldable pub redeem_script : List ℕ → Option Stretch
-redeem_script s = redeem_run none (walk_from false s 0)
+redeem_script s = redeem_run None (walk_from false s 0)
 
 -- ---- multisig
 
@@ -89,13 +89,13 @@ is_end (item i rest) = false
 
 -- it is a number, and this holds of it
 abbrev pub number_then : (ℕ → Bool) → Option ℕ → Bool
-number_then f none = false
-number_then f (some m) = f m
+number_then f None = false
+number_then f (Some m) = f m
 
 -- 'which if it is a number must equal the count of pushes'
 abbrev pub agrees : Option ℕ → ℕ → Bool
-agrees none count = true
-agrees (some n) count = eqb n count
+agrees None count = true
+agrees (Some n) count = eqb n count
 
 -- 'OP_CHECKMULTISIG; end'
 abbrev pub checks : Run → Bool

@@ -2,22 +2,19 @@
 #![tactic(auto)]
 
 ghost use Rattle.std.specs.Prelude.{true, false, ◌≡◌, get_or};
-ghost use Rattle.laws.specs.Said.{answers};
 ghost use Rattle.opcodes.specs.Opcode.{pushnum_of};
 ghost use Rattle.script.specs.Run.{walk_from};
 ghost use Rattle.walked.specs.Walked.{is_push_only, redeem_script, is_multisig, agrees, is_end, checks, number_then, keys_then};
 ghost use Rattle.walked.specs.Answer.{said_place};
 
-use opcodes::{Code, OP_CHECKMULTISIG, OP_PUSHNUM_16};
-use refusal::Refusal;
-use walk::{Cursor, Found, Mode};
+use opcodes::{OP_CHECKMULTISIG, OP_PUSHNUM_16};
+use walk::{Cursor, Instruction, Mode};
 
 // Where bytes of a script lie.
-#[derive(Clone, Copy)]
-pub enum Place {
-    At { start: usize, len: usize },
-    Nothing,
-    Refused(Refusal),
+#[derive(Clone, Copy, Debug, PartialEq, Eq)]
+pub struct Place {
+    pub start: usize,
+    pub len: usize,
 }
 
 // The most keys that a multisig may have.
@@ -27,62 +24,42 @@ const MAX_KEYS: usize = 255;
 pub fn push_only(s: &[u8]) -> bool
     ensures { result ≡ is_push_only s.now }
 {
-    let mut c = Cursor { at: 0 };
+    let mut c = Cursor::new();
     loop {
         let stepped = c.next(s, Mode::Plain);
-        let found = stepped.found;
+        let Ok(found) = stepped.found else {
+            return false;
+        };
         match found {
-            Found::End => {
-                return true;
-            }
-            Found::Opcode { place: _, code } => {
+            None => return true,
+            Some(Instruction::Opcode { code, .. }) => {
                 if OP_PUSHNUM_16 < code {
                     return false;
                 }
                 c = stepped.next;
             }
-            Found::Push {
-                place: _,
-                form: _,
-                body: _,
-                len: _,
-            } => {
-                c = stepped.next;
-            }
-            Found::Refused(_) => {
-                return false;
-            }
+            Some(Instruction::Push { .. }) => c = stepped.next,
         }
     }
 }
 
 // The last body of a script of pushes alone; nothing for any other script.
-pub fn last_push(s: &[u8]) -> Place
-    ensures { said_place result ≡ answers (redeem_script s.now) }
+pub fn last_push(s: &[u8]) -> Option<Place>
+    ensures { said_place result ≡ redeem_script s.now }
 {
-    let mut c = Cursor { at: 0 };
-    let mut last = Place::Nothing;
+    let mut c = Cursor::new();
+    let mut last = None;
     loop {
         let stepped = c.next(s, Mode::Plain);
-        let found = stepped.found;
+        let Ok(found) = stepped.found else {
+            return None;
+        };
         match found {
-            Found::End => {
-                return last;
-            }
-            Found::Opcode { place: _, code: _ } => {
-                return Place::Nothing;
-            }
-            Found::Push {
-                place: _,
-                form: _,
-                body,
-                len,
-            } => {
-                last = Place::At { start: body, len };
+            None => return last,
+            Some(Instruction::Opcode { .. }) => return None,
+            Some(Instruction::Push { body, len, .. }) => {
+                last = Some(Place { start: body, len });
                 c = stepped.next;
-            }
-            Found::Refused(_) => {
-                return Place::Nothing;
             }
         }
     }
@@ -92,10 +69,9 @@ pub fn last_push(s: &[u8]) -> Place
 fn agreeing(code: u8, count: usize) -> bool
     ensures { result ≡ agrees (pushnum_of code) count }
 {
-    let number = opcodes::decode_pushnum(code);
-    match number {
-        Code::Is(n) => n as usize == count,
-        Code::Nothing => true,
+    match opcodes::decode_pushnum(code) {
+        Some(n) => n as usize == count,
+        None => true,
     }
 }
 
@@ -103,19 +79,10 @@ fn agreeing(code: u8, count: usize) -> bool
 fn ending(s: &[u8], c: Cursor) -> bool
     ensures { result ≡ is_end (walk_from false s.now c.at) }
 {
-    let stepped = c.next(s, Mode::Plain);
-    let found = stepped.found;
-    match found {
-        Found::End => true,
-        Found::Opcode { place: _, code: _ } => false,
-        Found::Push {
-            place: _,
-            form: _,
-            body: _,
-            len: _,
-        } => false,
-        Found::Refused(_) => false,
-    }
+    let Ok(found) = c.next(s, Mode::Plain).found else {
+        return false;
+    };
+    found.is_none()
 }
 
 // Whether OP_CHECKMULTISIG stands at the cursor and the script ends after it.
@@ -123,23 +90,19 @@ fn checking(s: &[u8], c: Cursor) -> bool
     ensures { result ≡ checks (walk_from false s.now c.at) }
 {
     let stepped = c.next(s, Mode::Plain);
-    let found = stepped.found;
+    let Ok(found) = stepped.found else {
+        return false;
+    };
     match found {
-        Found::Opcode { place: _, code } => {
+        Some(Instruction::Opcode { code, .. }) => {
             if code == OP_CHECKMULTISIG {
                 ending(s, stepped.next)
             } else {
                 false
             }
         }
-        Found::End => false,
-        Found::Push {
-            place: _,
-            form: _,
-            body: _,
-            len: _,
-        } => false,
-        Found::Refused(_) => false,
+        Some(Instruction::Push { .. }) => false,
+        None => false,
     }
 }
 
@@ -148,31 +111,24 @@ fn keys(s: &[u8], start: Cursor, m: usize) -> bool
     ensures { result ≡ keys_then m (walk_from false s.now start.at) }
 {
     let mut c = start;
+    // How many keys there are: what is asked, and no index.
     let mut count: usize = 0;
     loop {
         let stepped = c.next(s, Mode::Plain);
-        let found = stepped.found;
+        let Ok(found) = stepped.found else {
+            return false;
+        };
         match found {
-            Found::End => {
-                return false;
-            }
-            Found::Opcode { place: _, code } => {
+            None => return false,
+            Some(Instruction::Opcode { code, .. }) => {
                 return agreeing(code, count) & checking(s, stepped.next) & (m <= count);
             }
-            Found::Push {
-                place: _,
-                form: _,
-                body: _,
-                len: _,
-            } => {
+            Some(Instruction::Push { .. }) => {
                 if count == MAX_KEYS {
                     return false;
                 }
                 count += 1;
                 c = stepped.next;
-            }
-            Found::Refused(_) => {
-                return false;
             }
         }
     }
@@ -182,25 +138,17 @@ fn keys(s: &[u8], start: Cursor, m: usize) -> bool
 fn walks_multisig(s: &[u8]) -> bool
     ensures { result ≡ is_multisig s.now }
 {
-    let front = Cursor { at: 0 };
-    let stepped = front.next(s, Mode::Plain);
-    let found = stepped.found;
+    let stepped = Cursor::new().next(s, Mode::Plain);
+    let Ok(found) = stepped.found else {
+        return false;
+    };
     match found {
-        Found::Opcode { place: _, code } => {
-            let number = opcodes::decode_pushnum(code);
-            match number {
-                Code::Is(m) => keys(s, stepped.next, m as usize),
-                Code::Nothing => false,
-            }
-        }
-        Found::End => false,
-        Found::Push {
-            place: _,
-            form: _,
-            body: _,
-            len: _,
-        } => false,
-        Found::Refused(_) => false,
+        Some(Instruction::Opcode { code, .. }) => match opcodes::decode_pushnum(code) {
+            Some(m) => keys(s, stepped.next, m as usize),
+            None => false,
+        },
+        Some(Instruction::Push { .. }) => false,
+        None => false,
     }
 }
 
@@ -211,14 +159,11 @@ fn starts_with_number(s: &[u8]) -> bool
     if s.len() == 0 {
         return false;
     }
-    let number = opcodes::decode_pushnum(s[0]);
-    match number {
-        Code::Is(_) => true,
-        Code::Nothing => false,
-    }
+    opcodes::decode_pushnum(s[0]).is_some()
 }
 
 // Whether a script is a bare multisig. Nothing is walked unless a number opcode stands first, so that any other script costs one test.
+#[tactic(auto, using(crate::proofs::Numbered::not_multisig))]
 pub fn multisig(s: &[u8]) -> bool
     ensures { result ≡ is_multisig s.now }
 {

@@ -1,31 +1,20 @@
 -- What is built is a witness script of that version and program, and every witness script is what is built for its own. Assumes nothing.
 use mathlib.Core.Path.{◌≡◌, refl, sym, ap, ap₂}
 use mathlib.Core.Logic.{◌↔◌, ⊎_elim}
-use mathlib.Core.Bool.{Bool, true, false, ◌&&◌, ◌||◌}
+use mathlib.Core.Bool.{Bool, true, ◌&&◌, ◌||◌}
 use mathlib.Core.List.{List, [], ◌∷◌}
-use mathlib.Core.Option.{some}
+use Rattle.std.specs.Prelude.{Some}
 use Prim.Native.Nat.{ℕ, suc, ◌+◌, ◌-◌, ◌≤◌, ◌<◌}
 use native.Mathlib.Omega.{arith}
-use borrow.Author.Tests.{le-ltb, le-leb, leb-true, eq-eqb, ne_eqb, eqb-true, eqb-false}
+use borrow.Author.Tests.{le-leb, leb-true, eq-eqb, ne_eqb, eqb-true, eqb-false}
 use lib.Dec.{leb, eqb}
 use lib.ListN.{length}
 use Rattle.std.specs.Prelude.{if◌then◌else◌}
-use Rattle.laws.specs.Buffer.{writes}
 use Rattle.laws.proofs.Test.{by_test, and_left, and_right, either}
 use Rattle.opcodes.specs.Core.{decode_op_n}
 use Rattle.fixed.specs.Fixed.{witness_version, is_witness_program}
 use Rattle.fixed.proofs.Versions.{program_long}
-use Rattle.witness.specs.Program.{version_byte, wrong_v0, witness_bytes, witness_says, ReadsBack, VersionAndPush}
-
-pub bytes_length : (version : ℕ) (program : List ℕ) → length (witness_bytes version program) ≡ length program + 2
-unfolding witness_bytes
-bytes_length version program = omega arith
-
--- only the room is left to ask
-pub taken_program : (version : ℕ) (program : List ℕ) (room : ℕ) → version ≤ 16 → 2 ≤ length program → length program ≤ 40 → wrong_v0 version (length program) ≡ false
-    → witness_says version program room ≡ writes (witness_bytes version program) room
-unfolding witness_says
-taken_program version program room v l m w = rw (le-ltb 16 version v, le-ltb (length program) 2 l, le-ltb 40 (length program) m, w)
+use Rattle.witness.specs.Program.{version_byte, witness_bytes, ReadsBack, VersionAndPush}
 
 -- ---- read back
 
@@ -56,11 +45,11 @@ built_is_witness version program v l m =
 
 -- `templates::witness_version` finds that version again.
 pub found_again : (version : ℕ) (program : List ℕ) → version ≤ 16 → 2 ≤ length program → length program ≤ 40
-    → witness_version (witness_bytes version program) ≡ some version
+    → witness_version (witness_bytes version program) ≡ Some version
 unfolding witness_version
 found_again version program v l m =
     let b = built_is_witness version program v l m in
-    rw b.witness (ap some b.version_is)
+    rw b.witness (ap Some b.version_is)
 
 -- ---- every witness program is built so
 

@@ -1,10 +1,12 @@
 -- The entry is settled: two outcomes that its contract permits for one input are equal, the answer and the lent buffer. Assumes nothing.
 use mathlib.Core.Path.{◌≡◌}
 use Rattle.laws.proofs.Settled.{settled, same_value}
-use Rattle.refusal.specs.declared.Counted.{Counted}
-use Rattle.refusal.proofs.Same.{same_count}
+use Rattle.refusal.proofs.Same.{same_answer}
 use Rattle.witness.proofs.witness_program.Reads as witness-program
+use Rattle.refusal.specs.declared.Refusal.{Refusal}
+use Rattle.std.specs.Prelude.{Result}
+use Prim.Native.Nat.{ℕ}
 
-pub witness_program_settled : (κs : _) (a : _) (r t : Counted) (s u : _) → witness-program.Post κs a r s → witness-program.Post κs a t u
+pub witness_program_settled : (κs : _) (a : _) (r t : Result ℕ Refusal) (s u : _) → witness-program.Post κs a r s → witness-program.Post κs a t u
     → (r ≡ t) × (s.1.1.0.now ≡ u.1.1.0.now)
-witness_program_settled κs a r t s u p q = (settled same_count r t p.0 q.0, same_value p.1 q.1)
+witness_program_settled κs a r t s u p q = (settled same_answer r t p.0 q.0, same_value p.1 q.1)

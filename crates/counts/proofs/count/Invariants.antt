@@ -5,8 +5,8 @@ use lib.ListN.{length}
 use Rattle.counts.proofs.Turns.{Counting}
 use Rattle.counts.proofs.count.Given as goal
 
-abbrev pub invariant-loop-code : goal.invariant-loop-code
-invariant-loop-code l = (l.c.at ≤ length l.script) × (l.n ≤ 20 * l.c.at) × Counting l.accurate l.script l.c.at l.n l.last
+abbrev pub invariant-loop-found : goal.invariant-loop-found
+invariant-loop-found l = (l.c.at ≤ length l.script) × (l.n ≤ 20 * l.c.at) × Counting l.accurate l.script l.c.at l.n l.last
 
-abbrev pub decreases-loop-code : goal.decreases-loop-code
-decreases-loop-code l = length l.script - l.c.at
+abbrev pub decreases-loop-found : goal.decreases-loop-found
+decreases-loop-found l = length l.script - l.c.at

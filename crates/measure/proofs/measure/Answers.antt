@@ -1,26 +1,20 @@
 -- `measure::measure` meets its contract. The outer invariant: what is measured, with the text from here on, is as long as the whole text; its
--- measure is what is left of the script. The inner one: the length bytes from i on are read; its measure is i. Assumes nothing.
-use mathlib.Core.Path.{◌≡◌, refl, sym, ap, subst}
+-- measure is what is left of the script. The inner one: the length bytes behind i are read. Assumes nothing.
+use mathlib.Core.Path.{◌≡◌, sym, subst}
 use mathlib.Core.List.{List, ◌++◌}
 use Prim.Native.Nat.{ℕ, ◌+◌, ◌≤◌}
 use native.Mathlib.Omega.{arith}
 use lib.ListN.{length, get_or}
-use Rattle.opcodes.specs.Opcode.{sort_of}
 use Rattle.script.specs.Instruction.{Bytes}
 use Rattle.asm.specs.Asm.{opcode_text, space_at, data_len, text_from}
 use Rattle.asm.proofs.Sizes.{space_short, opcode_short}
-use Rattle.asm.proofs.LengthStep.{few_after, none_yet, cut, more, all, whole}
-use Rattle.measure.proofs.Measured.{Measured, start, data_few, length_cut, body_cut, body_whole}
-use Rattle.asm.proofs.Turn.{ends, says, length_cut as cut_at, behind, opened, behind_cut, behind_whole}
+use Rattle.asm.proofs.LengthStep.{cut, more, all, whole}
+use Rattle.measure.proofs.Measured.{Measured, length_cut, body_cut, body_whole}
+use Rattle.asm.proofs.Turn.{says, length_cut as cut_at, behind, opened, behind_cut, behind_whole}
 use Rattle.measure.proofs.measure.Goals as goal
-use Rattle.measure.proofs.measure.Goals.{After-length_bytes_after-k, After-opcode_text_len}
+use Rattle.measure.proofs.measure.Goals.{After-opcode_text_len}
 
--- at the length step
-module _ (g : After-length_bytes_after-k) where
-  few : g.length_bytes_after-k.result ≤ 4
-  few = omega (arith, g.length_bytes_after-k.ensures, few_after (sort_of (get_or g.args.script.now g.script.at 0)))
-
--- after it, where the name's length is known
+-- where the name's length is known
 module _ (d : After-opcode_text_len) where
   abbrev s : List ℕ
   s = d.args.script.now
@@ -32,7 +26,7 @@ module _ (d : After-opcode_text_len) where
   bytes i = omega (arith, d.type_inv.script i)
 
   there : at + 1 + d.length_bytes_after-k.result ≤ length s
-  there = whole d.loop-i.invariant.0 d.loop-i-test.false d.script-test.true
+  there = whole d.loop-i.invariant.0 (omega arith) d.script-test.true
 
   so_far : Measured s d.loop-i.n at
   so_far = subst (λ (n : ℕ). Measured s n at) (sym d.loop-i.invariant.1) d.script.invariant
@@ -41,7 +35,7 @@ module _ (d : After-opcode_text_len) where
   named = opened s at d.script-test.true d.length_bytes_after-k.ensures there
 
   len_is : d.data_len-len.result ≡ data_len s at
-  len_is = says s at d.script-test.true d.length_bytes_after-k.ensures (all d.loop-i.invariant.0 d.loop-i-test.false) d.data_len-len.ensures
+  len_is = says s at d.script-test.true d.length_bytes_after-k.ensures (all d.loop-i.invariant.0 (omega arith)) d.data_len-len.ensures
 
   space : d.space_len.result ≤ 1
   space = omega (arith, d.space_len.ensures, space_short at)
@@ -49,37 +43,9 @@ module _ (d : After-opcode_text_len) where
   name : d.opcode_text_len.result ≤ 22
   name = omega (arith, d.opcode_text_len.ensures, opcode_short (get_or s at 0) (bytes at))
 
-pub script-init : goal.script-init
-script-init c = start _
-
-pub loop-i-init : goal.loop-i-init
-loop-i-init c =
-    let d = (goal.at.loop-i-init c).After-length_bytes_after-k in
-    (none_yet c.args.script.now c.script.at d.length_bytes_after-k.result (few d), refl)
-
 pub loop-i-preserved : goal.loop-i-preserved
 loop-i-preserved c =
-    (more c.loop-i.invariant.0 (λ i. omega (arith, c.type_inv.script i)) c.loop-i-test.true c.if-script-at.false refl, c.loop-i.invariant.1)
-
-pub overflow_add-n-in-script : goal.overflow_add-n-in-script
-overflow_add-n-in-script c =
-    let d = (goal.at.overflow_add-n-in-script c).After-opcode_text_len in
-    omega (arith, space d, name d)
-
-pub overflow_add-n-in-script-2 : goal.overflow_add-n-in-script-2
-overflow_add-n-in-script-2 c =
-    let d = (goal.at.overflow_add-n-in-script-2 c).After-opcode_text_len in
-    omega (arith, space d, name d, (so_far d).few)
-
-pub overflow_add-n-then-script-body : goal.overflow_add-n-then-script-body
-overflow_add-n-then-script-body c =
-    let d = (goal.at.overflow_add-n-then-script-body c).After-opcode_text_len in
-    omega (arith, space d, name d, (so_far d).few)
-
-pub overflow_add-n-in-script-3 : goal.overflow_add-n-in-script-3
-overflow_add-n-in-script-3 c =
-    let d = (goal.at.overflow_add-n-in-script-3 c).After-opcode_text_len in
-    omega (arith, space d, name d, (so_far d).few, data_few c.data_len-len.result, c.data_text_len-n.ensures, there d)
+    (more c.loop-i.invariant.0 (λ i. omega (arith, c.type_inv.script i)) c.loop-i-test.true c.if-script-at.false c.from.ensures, c.loop-i.invariant.1)
 
 pub script-preserved : goal.script-preserved
 script-preserved c =
@@ -87,9 +53,6 @@ script-preserved c =
     body_whole (so_far d) (space_at (at d)) (opcode_text (get_or (s d) (at d) 0)) (behind (s d) (at d)) (named d) c.space_len.ensures c.opcode_text_len.ensures
     (behind_whole (s d) (at d) c.script-test.true c.length_bytes_after-k.ensures (there d) (len_is d) c.if-script-body.false)
     c.data_text_len-n.ensures (omega arith) (there d) c.if-script-body.false (space d) (name d)
-
-pub returns-after-script : goal.returns-after-script
-returns-after-script c = omega (arith, c.script.invariant.left, ap length (ends c.args.script.now c.script.at c.script-test.false))
 
 pub returns-then-script-at : goal.returns-then-script-at
 returns-then-script-at c =

@@ -7,11 +7,11 @@ use Rattle.walk.specs.Answer.{is_minimal}
 use Rattle.script.specs.Run.{walk_from, items, ending}
 use Rattle.places.proofs.count.Given as goal
 
-abbrev pub invariant-loop-sized : goal.invariant-loop-sized
-invariant-loop-sized l =
+abbrev pub invariant-loop-mode : goal.invariant-loop-mode
+invariant-loop-mode l =
     (l.at ≤ length l.script) × (l.n ≤ l.at)
     × (l.n + length (items (walk_from (is_minimal l.mode) l.script l.at)) ≡ length (items (walk_from (is_minimal l.mode) l.script 0)))
     × (ending (walk_from (is_minimal l.mode) l.script l.at) ≡ ending (walk_from (is_minimal l.mode) l.script 0))
 
-abbrev pub decreases-loop-sized : goal.decreases-loop-sized
-decreases-loop-sized l = length l.script - l.at
+abbrev pub decreases-loop-mode : goal.decreases-loop-mode
+decreases-loop-mode l = length l.script - l.at

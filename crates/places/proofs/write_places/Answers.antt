@@ -1,5 +1,5 @@
 -- `places::write_places` meets its contract. The loop's invariant: the table as it is, with the places from here on stored from i on, is the
--- table at the end, and there is room for them. The measure is what is left of the script. Assumes nothing.
+-- table at the end, and there is room for them. Assumes nothing.
 use mathlib.Core.Path.{◌≡◌, refl, sym, ap, ◌∙◌}
 use mathlib.Core.Bool.{Bool}
 use mathlib.Core.List.{List, ◌∷◌, map}
@@ -15,6 +15,7 @@ use Rattle.script.specs.Walk.{place_of}
 use Rattle.places.specs.Places.{places_of}
 use Rattle.script.proofs.Sized.{within_limit_lem, stands_fits, turn_sized, stops}
 use Rattle.places.proofs.Places.{place_is}
+use Rattle.std.proofs.lemmas.List.{set-get_or, nil_from_length}
 use Rattle.places.proofs.write_places.Goals as goal
 use Rattle.places.proofs.write_places.Goals.{After-whole_size-size}
 
@@ -31,13 +32,13 @@ module _ (d : After-whole_size-size) where
   s = d.args.script.now
 
   abbrev p : ℕ
-  p = d.loop-mode.at
+  p = d.loop-entry.at
 
   abbrev table : List ℕ
-  table = d.loop-mode.table
+  table = d.loop-entry.entry-items
 
   abbrev i : ℕ
-  i = d.loop-mode.i
+  i = d.loop-entry.entry-index
 
   abbrev size : ℕ
   size = d.whole_size-size.result
@@ -62,38 +63,32 @@ module _ (d : After-whole_size-size) where
     room : i + suc (length (from m s (p + size))) ≤ length table
     room = omega (arith, ap length goes_on)
 
-    again : (p + size ≤ length s) × (length (set table i p) ≡ length d.args.table.now) × (i + 1 + length (from m s (p + size)) ≤ length (set table i p))
+    again : (p + size ≤ length s) × (i + 1 + length (from m s (p + size)) ≤ length (set table i p))
         × (sets (set table i p) (i + 1) (from m s (p + size)) ≡ sets d.args.table.now 0 (from m s 0))
     again =
-        let v = d.loop-mode.invariant in
-        (ends_at, simp length-set v.1, simp length-set (omega (arith, room)), rw add-one (sym (ap (sets table i) goes_on) ∙ v.3))
+        let v = d.loop-entry.invariant in
+        (ends_at, simp length-set (omega (arith, room)), rw add-one (sym (ap (sets table i) goes_on) ∙ v.2))
 
   -- the walk stops there
   ends : size ≡ 0 → table ≡ sets d.args.table.now 0 (places_of m s)
   unfolding places_of
   ends z =
-      sym (ap (λ (r : Run). sets table i (map place_of (items r))) (stops m s p (sym d.whole_size-size.ensures ∙ z))) ∙ d.loop-mode.invariant.3
+      sym (ap (λ (r : Run). sets table i (map place_of (items r))) (stops m s p (sym d.whole_size-size.ensures ∙ z))) ∙ d.loop-entry.invariant.2
 
-pub loop-mode-init : goal.loop-mode-init
+pub loop-entry-init : goal.loop-entry-init
 unfolding places_of
-loop-mode-init c = (omega arith, refl, omega (arith, c.requires), refl)
+loop-entry-init c = (omega arith, omega (arith, c.requires), refl)
 
 pub returns-then-size-eq0 : goal.returns-then-size-eq0
 returns-then-size-eq0 c =
     let d = (goal.at.returns-then-size-eq0 c).After-whole_size-size in
-    ends d c.if-size-eq0.true
+    set-get_or (table d) (i d) 0 ∙ ends d c.if-size-eq0.true
 
-pub overflow_cast-table : goal.overflow_cast-table
-overflow_cast-table c =
-    let d = (goal.at.overflow_cast-table c).After-whole_size-size in
+pub overflow_cast-entry : goal.overflow_cast-entry
+overflow_cast-entry c =
+    let d = (goal.at.overflow_cast-entry c).After-whole_size-size in
     let some : 0 < size d = omega arith in
     omega (arith, ends_at d some, small d some)
-
-pub bounds-table-i : goal.bounds-table-i
-bounds-table-i c =
-    let d = (goal.at.bounds-table-i c).After-whole_size-size in
-    let some : 0 < size d = omega arith in
-    omega (arith, room d some)
 
 pub overflow_add-at : goal.overflow_add-at
 overflow_add-at c =
@@ -101,14 +96,15 @@ overflow_add-at c =
     let some : 0 < size d = omega arith in
     omega (arith, ends_at d some)
 
-pub loop-mode-smaller : goal.loop-mode-smaller
-loop-mode-smaller c =
-    let d = (goal.at.loop-mode-smaller c).After-whole_size-size in
-    let some : 0 < size d = omega arith in
-    omega (arith, ends_at d some, some)
-
-pub loop-mode-preserved : goal.loop-mode-preserved
-loop-mode-preserved c =
-    let d = (goal.at.loop-mode-preserved c).After-whole_size-size in
+pub loop-entry-preserved : goal.loop-entry-preserved
+loop-entry-preserved c =
+    let d = (goal.at.loop-entry-preserved c).After-whole_size-size in
     let some : 0 < size d = omega arith in
     again d some
+
+pub returns : goal.returns
+unfolding places_of
+returns c =
+    let h = c.loop-entry.invariant in
+    let z : length (from (is_minimal c.args.mode) c.args.script.now c.loop-entry.at) ≡ 0 = omega arith in
+    rw (nil_from_length _ z) at h.2

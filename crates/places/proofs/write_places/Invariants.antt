@@ -1,9 +1,9 @@
 -- `places::write_places` meets its contract. The loop's invariant: the table as it is, with the places from here on stored from i on, is the
--- table at the end, and there is room for them. The measure is what is left of the script. Assumes nothing.
+-- table at the end, and there is room for them. Assumes nothing.
 use mathlib.Core.Path.{◌≡◌}
 use mathlib.Core.Bool.{Bool}
 use mathlib.Core.List.{List, map}
-use Prim.Native.Nat.{ℕ, ◌+◌, ◌-◌, ◌≤◌}
+use Prim.Native.Nat.{ℕ, ◌+◌, ◌≤◌}
 use lib.ListN.{length}
 use lib.Seq.{sets}
 use Rattle.walk.specs.Answer.{is_minimal}
@@ -15,10 +15,7 @@ use Rattle.places.proofs.write_places.Given as goal
 abbrev from : Bool → List ℕ → ℕ → List ℕ
 from minimal s p = map place_of (items (walk_from minimal s p))
 
-abbrev pub invariant-loop-mode : goal.invariant-loop-mode
-invariant-loop-mode l =
-    (l.at ≤ length l.script) × (length l.table ≡ length l.initial.table) × (l.i + length (from (is_minimal l.mode) l.script l.at) ≤ length l.table)
-    × (sets l.table l.i (from (is_minimal l.mode) l.script l.at) ≡ sets l.initial.table 0 (from (is_minimal l.mode) l.script 0))
-
-abbrev pub decreases-loop-mode : goal.decreases-loop-mode
-decreases-loop-mode l = length l.script - l.at
+abbrev pub invariant-loop-entry : goal.invariant-loop-entry
+invariant-loop-entry l =
+    (l.at ≤ length l.script) × (l.entry-index + length (from (is_minimal l.mode) l.script l.at) ≤ length l.entry-items)
+    × (sets l.entry-items l.entry-index (from (is_minimal l.mode) l.script l.at) ≡ sets l.initial.entry-items 0 (from (is_minimal l.mode) l.script 0))

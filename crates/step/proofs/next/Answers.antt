@@ -11,7 +11,7 @@ use Rattle.opcodes.specs.Opcode.{sort_of, length_bytes_after}
 use Rattle.script.specs.Walk.{found, walked, walk_says, next_at, size_said}
 use Rattle.script.proofs.Sized.{within_limit_lem, inside_script, stands_is, stands_head, stands_fits, stands_next}
 use Rattle.hand.specs.Handed.{handed, steps, walked_row, minimal_of}
-use Rattle.hand.proofs.Handing.{steps_short, steps_row}
+use Rattle.hand.proofs.Handing.{steps_row}
 use Rattle.step.proofs.next.Goals as goal
 use Rattle.step.proofs.next.Goals.{Else-size-eq0}
 
@@ -55,10 +55,6 @@ module _ (c : Else-size-eq0) where
       ap (λ r. handed r new) e
       ∙ steps_row (next_at minimal script at) (walk_says minimal script at) old _ h (stands_is minimal script at bytes c.whole_size-size.result sized some)
       (g ∙ ap (λ n. sets old 0 (n ∷ stood)) (stands_next minimal script at bytes c.whole_size-size.result sized some))
-
-pub returns-then-values-lt-STEP_VALUES : goal.returns-then-values-lt-STEP_VALUES
-returns-then-values-lt-STEP_VALUES c =
-    steps_short _ _ _ c.if-values-lt-STEP_VALUES.true
 
 pub bounds-script-at : goal.bounds-script-at
 bounds-script-at c =

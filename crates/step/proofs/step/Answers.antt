@@ -1,25 +1,29 @@
 -- `step::step` meets its contract, case by case. Assumes nothing.
 use mathlib.Core.Path.{refl, ap, ◌∙◌}
+use Rattle.std.specs.Prelude.{Ok}
 use Rattle.walk.specs.Answer.{said_found}
-use Rattle.hand.proofs.Handing.{steps_short, steps_row, steps_refused}
+use Rattle.walk.proofs.Turn.{finds}
+use Rattle.hand.proofs.Handing.{steps_row, steps_refused}
 use Rattle.step.proofs.step.Goals as goal
 
-pub returns-then-values-lt-STEP_VALUES : goal.returns-then-values-lt-STEP_VALUES
-returns-then-values-lt-STEP_VALUES c =
-    steps_short _ _ _ c.if-values-lt-STEP_VALUES.true
+pub returns-in-Ok-None : goal.returns-in-Ok-None
+returns-in-Ok-None c =
+    let a = c.in-Ok-None in
+    let e = let q = rw a.is at a.field-0-is in a.is ∙ ap Ok q in
+    steps_row _ _ c.args.values.now _ c.if-values-lt-STEP_VALUES.false (ap said_found e) c.put.ensures
 
-pub returns-in-End : goal.returns-in-End
-returns-in-End c =
-    steps_row _ _ c.args.values.now _ c.if-values-lt-STEP_VALUES.false (ap said_found c.in-End.is) refl
+pub returns-in-Ok-Some-Opcode : goal.returns-in-Ok-Some-Opcode
+returns-in-Ok-Some-Opcode c =
+    let a = c.in-Ok-Some-Opcode in
+    let e = let q = rw a.is at a.field-0-is in finds a.is q (rw (a.is, q) at a.field-0-0-is) in
+    steps_row _ _ c.args.values.now _ c.if-values-lt-STEP_VALUES.false (ap said_found e) c.put-in-Ok-Some-Opcode.ensures
 
-pub returns-in-Opcode : goal.returns-in-Opcode
-returns-in-Opcode c =
-    steps_row _ _ c.args.values.now _ c.if-values-lt-STEP_VALUES.false (ap said_found c.in-Opcode.is) c.put_four.ensures
+pub returns-in-Ok-Some-Push : goal.returns-in-Ok-Some-Push
+returns-in-Ok-Some-Push c =
+    let a = c.in-Ok-Some-Push in
+    let e = let q = rw a.is at a.field-0-is in finds a.is q (rw (a.is, q) at a.field-0-0-is) in
+    steps_row _ _ c.args.values.now _ c.if-values-lt-STEP_VALUES.false (ap said_found e) (c.put-in-Ok-Some-Push.ensures ∙ rw c.length_bytes-k.ensures refl)
 
-pub returns-in-Push : goal.returns-in-Push
-returns-in-Push c =
-    steps_row _ _ c.args.values.now _ c.if-values-lt-STEP_VALUES.false (ap said_found c.in-Push.is) (c.put_two.ensures ∙ rw (c.put_four-in-Push.ensures, c.length_bytes-k.ensures) refl)
-
-pub returns-in-Refused : goal.returns-in-Refused
-returns-in-Refused c =
-    steps_refused _ _ c.args.values.now c.in-Refused.why c.if-values-lt-STEP_VALUES.false (ap said_found c.in-Refused.is) c.refusal.ensures
+pub returns-in-Err : goal.returns-in-Err
+returns-in-Err c =
+    steps_refused _ _ c.args.values.now c.in-Err.why c.if-values-lt-STEP_VALUES.false (ap said_found c.in-Err.is) c.refusal.ensures

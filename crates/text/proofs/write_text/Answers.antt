@@ -1,23 +1,18 @@
 -- `text::write_text` meets its contract. The outer invariant: what is left of the text, stored from n on, gives the buffer at the end; its
--- measure is what is left of the script. The inner one: the length bytes from i on are read; its measure is i. Assumes nothing.
+-- measure is what is left of the script. The inner one: the length bytes behind i are read. Assumes nothing.
 use mathlib.Core.Path.{◌≡◌, refl}
 use mathlib.Core.List.{List, ◌++◌}
 use Prim.Native.Nat.{ℕ, ◌+◌, ◌-◌, ◌≤◌, ◌<◌}
 use native.Mathlib.Omega.{arith}
 use lib.ListN.{length, get_or, take, drop}
 use lib.Seq.{sets}
-use Rattle.opcodes.specs.Opcode.{sort_of}
 use Rattle.pool.specs.Text.{text}
 use Rattle.asm.specs.Asm.{opcode_text, data_text, space_at, data_len, text_from, text_of}
-use Rattle.text.proofs.Stored.{Left, begin, on, fits, equal, last}
-use Rattle.asm.proofs.LengthStep.{few_after, none_yet, cut, more, all, whole}
-use Rattle.asm.proofs.Turn.{ends, says, length_cut, behind, opened, behind_cut, behind_whole}
+use Rattle.text.proofs.Stored.{Left, on, fits, equal, last}
+use Rattle.asm.proofs.LengthStep.{cut, more, all, whole}
+use Rattle.asm.proofs.Turn.{says, length_cut, behind, opened, behind_cut, behind_whole}
 use Rattle.text.proofs.write_text.Goals as goal
-use Rattle.text.proofs.write_text.Goals.{After-length_bytes_after-k, After-data_len-len, Then-script-at}
-
--- at the length step
-few : (g : After-length_bytes_after-k) → g.length_bytes_after-k.result ≤ 4
-few g = omega (arith, g.length_bytes_after-k.ensures, few_after (sort_of (get_or g.args.script.now g.script.at 0)))
+use Rattle.text.proofs.write_text.Goals.{After-data_len-len, Then-script-at}
 
 -- the length bytes are cut
 mark : (t : Then-script-at) → Left (text_of t.args.script.now) t.args.out.now t.script.n t.loop-i.out (text "<unexpected end>")
@@ -55,10 +50,10 @@ module _ (d : After-data_len-len) where
   ToDo n out rest = Left (text_of s) d.args.out.now n out rest
 
   there : b ≤ length s
-  there = whole d.loop-i.invariant.0 d.loop-i-test.false d.script-test.true
+  there = whole d.loop-i.invariant.0 (omega arith) d.script-test.true
 
   len_is : len ≡ data_len s at
-  len_is = says s at d.script-test.true d.length_bytes_after-k.ensures (all d.loop-i.invariant.0 d.loop-i-test.false) d.data_len-len.ensures
+  len_is = says s at d.script-test.true d.length_bytes_after-k.ensures (all d.loop-i.invariant.0 (omega arith)) d.data_len-len.ensures
 
   begun : ToDo d.script.n d.loop-i.out (space ++ (name ++ rest))
   begun = equal d.script.invariant.1 d.loop-i.invariant.1 (opened s at d.script-test.true d.length_bytes_after-k.ensures there)
@@ -83,21 +78,12 @@ module _ (d : After-data_len-len) where
           let e : b + len - b ≡ len = omega arith in
           rw e (equal named refl (behind_whole s at d.script-test.true d.length_bytes_after-k.ensures there len_is h))
 
-pub script-init : goal.script-init
-unfolding text_of
-script-init c = (omega arith, begin c.requires.1)
-
-pub loop-i-init : goal.loop-i-init
-loop-i-init c =
-    let g = (goal.at.loop-i-init c).After-length_bytes_after-k in
-    (none_yet c.args.script.now c.script.at c.length_bytes_after-k.result (few g), refl)
-
 pub put_unexpected_end-requires : goal.put_unexpected_end-requires
 put_unexpected_end-requires c = (mark (goal.at.put_unexpected_end-requires c).Then-script-at).room
 
 pub loop-i-preserved : goal.loop-i-preserved
 loop-i-preserved c =
-    (more c.loop-i.invariant.0 (λ i. omega (arith, c.type_inv.script i)) c.loop-i-test.true c.if-script-at.false refl, c.loop-i.invariant.1)
+    (more c.loop-i.invariant.0 (λ i. omega (arith, c.type_inv.script i)) c.loop-i-test.true c.if-script-at.false c.from.ensures, c.loop-i.invariant.1)
 
 pub put_space-n-requires : goal.put_space-n-requires
 put_space-n-requires c =
@@ -108,8 +94,7 @@ pub put_opcode-n-requires : goal.put_opcode-n-requires
 put_opcode-n-requires c =
     let d = (goal.at.put_opcode-n-requires c).After-data_len-len in
     let p = c.put_space-n.ensures in
-    let r = c.requires in
-    (fits (name d) (rest d) (spaced d p.next p.left), r.2, r.3, r.4)
+    fits (name d) (rest d) (spaced d p.next p.left)
 
 pub put_push_past_end-requires : goal.put_push_past_end-requires
 put_push_past_end-requires c =
@@ -134,11 +119,6 @@ script-preserved c =
       on (data_text (take (b d + len d - b d) (drop (b d) (s d)))) (text_from (s d) (b d + len d)) (body d p.next p.left q.next q.left c.if-script-body.false)
           c.put_data-n.ensures.next c.put_data-n.ensures.left,
     )
-
-pub returns-after-script : goal.returns-after-script
-returns-after-script c =
-    let o = c.script in
-    last (equal o.invariant.1 refl (ends c.args.script.now o.at c.script-test.false)) refl
 
 pub returns-then-script-at : goal.returns-then-script-at
 returns-then-script-at c = last (mark (goal.at.returns-then-script-at c).Then-script-at) c.put_unexpected_end.ensures

@@ -1,5 +1,5 @@
 -- `text::write_text` meets its contract. The outer invariant: what is left of the text, stored from n on, gives the buffer at the end; its
--- measure is what is left of the script. The inner one: the length bytes from i on are read; its measure is i. Assumes nothing.
+-- measure is what is left of the script. The inner one: the length bytes behind i are read. Assumes nothing.
 use mathlib.Core.Path.{◌≡◌}
 use Prim.Native.Nat.{◌-◌, ◌≤◌}
 use lib.ListN.{length}
@@ -10,9 +10,6 @@ use Rattle.text.proofs.write_text.Given as goal
 
 abbrev pub invariant-loop-i : goal.invariant-loop-i
 invariant-loop-i l = Stated l.script l.at l.k l.stated l.i × (l.out ≡ l.initial.out)
-
-abbrev pub decreases-loop-i : goal.decreases-loop-i
-decreases-loop-i l = l.i
 
 abbrev pub invariant-script : goal.invariant-script
 invariant-script l = (l.at ≤ length l.script) × Left (text_of l.script) l.initial.out l.n l.out (text_from l.script l.at)

@@ -8,10 +8,10 @@ use Rattle.script.specs.Run.{walk_from}
 use Rattle.walked.specs.Walked.{pushes, after_pushes}
 use Rattle.walked.proofs.keys.Given as goal
 
-abbrev pub invariant-loop-code : goal.invariant-loop-code
-invariant-loop-code l =
+abbrev pub invariant-loop-found : goal.invariant-loop-found
+invariant-loop-found l =
     (l.count ≤ 255) × (l.count + pushes (walk_from false l.s l.c.at) ≡ pushes (walk_from false l.s l.initial.c.at))
     × (after_pushes (walk_from false l.s l.c.at) ≡ after_pushes (walk_from false l.s l.initial.c.at))
 
-abbrev pub decreases-loop-code : goal.decreases-loop-code
-decreases-loop-code l = length l.s - l.c.at
+abbrev pub decreases-loop-found : goal.decreases-loop-found
+decreases-loop-found l = length l.s - l.c.at

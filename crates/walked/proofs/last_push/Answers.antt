@@ -1,43 +1,36 @@
 -- `walked::last_push` meets its contract. The loop's invariant: the walk from here on, with the body that is held, gives what the whole
 -- walk gives. The measure is what is left of the script. Assumes nothing.
-use mathlib.Core.Path.{refl, sym, ap, ◌∙◌}
-use mathlib.Core.Option.{Option, none, some}
+use mathlib.Core.Path.{sym, ap, ◌∙◌}
 use native.Mathlib.Omega.{arith}
-use Rattle.laws.specs.Said.{answers}
-use Rattle.walk.proofs.Turn.{turn_at, moves_at}
-use Rattle.walked.specs.Walked.{Stretch, stretch, redeem_run, redeem_script}
-use Rattle.walked.specs.declared.Place.{Place}
-use Rattle.walked.specs.declared.Place.TheVariants.{At, Nothing, Refused}
+use Rattle.std.specs.Prelude.{Ok}
+use Rattle.walk.proofs.Turn.{finds, turn_at, moves_at}
+use Rattle.walked.specs.Walked.{redeem_run, redeem_script}
+use Rattle.walked.specs.Answer.{said_place}
 use Rattle.walked.proofs.Runs.{opcode_redeems}
 use Rattle.walked.proofs.last_push.Goals as goal
 
-abbrev held : Place → Option Stretch
-held (At start len) = some (stretch start len)
-held Nothing = none
-held (Refused r) = none
-
-pub returns-in-End : goal.returns-in-End
+pub returns-in-None : goal.returns-in-None
 unfolding redeem_script
-returns-in-End c =
-    let l = c.loop-last in
-    l.invariant.0 ∙ ap answers (sym (ap (redeem_run (held l.last)) (turn_at _ _ _ c.next-stepped.ensures c.in-End.is)) ∙ l.invariant.1)
+returns-in-None c =
+    let l = c.loop-found in
+    (sym (ap (redeem_run (said_place l.last)) (turn_at _ _ _ c.next-stepped.ensures (c.in-Ok.is ∙ ap Ok c.in-None.is))) ∙ l.invariant)
 
-pub returns-in-Opcode : goal.returns-in-Opcode
+pub returns-in-Some-Opcode : goal.returns-in-Some-Opcode
 unfolding redeem_script
-returns-in-Opcode c =
-    let l = c.loop-last in
-    ap answers (sym (opcode_redeems (turn_at _ _ _ c.next-stepped.ensures c.in-Opcode.is) (held l.last)) ∙ l.invariant.1)
+returns-in-Some-Opcode c =
+    let l = c.loop-found in
+    (sym (opcode_redeems (turn_at _ _ _ c.next-stepped.ensures (finds c.in-Ok.is c.in-Some-Opcode.is (rw c.in-Some-Opcode.is at c.in-Some-Opcode.field-0-is))) (said_place l.last)) ∙ l.invariant)
 
-pub loop-last-smaller : goal.loop-last-smaller
-loop-last-smaller c = omega (arith, moves_at _ _ _ c.next-stepped.ensures c.in-Push.is)
+pub loop-found-smaller : goal.loop-found-smaller
+loop-found-smaller c = omega (arith, moves_at _ _ _ c.next-stepped.ensures (finds c.in-Ok.is c.in-Some-Push.is (rw c.in-Some-Push.is at c.in-Some-Push.field-0-is)))
 
-pub loop-last-preserved : goal.loop-last-preserved
-loop-last-preserved c =
-    let l = c.loop-last in
-    (refl, sym (ap (redeem_run (held l.last)) (turn_at _ _ _ c.next-stepped.ensures c.in-Push.is)) ∙ l.invariant.1)
+pub loop-found-preserved : goal.loop-found-preserved
+loop-found-preserved c =
+    let l = c.loop-found in
+    sym (ap (redeem_run (said_place l.last)) (turn_at _ _ _ c.next-stepped.ensures (finds c.in-Ok.is c.in-Some-Push.is (rw c.in-Some-Push.is at c.in-Some-Push.field-0-is)))) ∙ l.invariant
 
-pub returns-in-Refused : goal.returns-in-Refused
+pub returns-in_default : goal.returns-in_default
 unfolding redeem_script
-returns-in-Refused c =
-    let l = c.loop-last in
-    ap answers (sym (ap (redeem_run (held l.last)) (turn_at _ _ _ c.next-stepped.ensures c.in-Refused.is)) ∙ l.invariant.1)
+returns-in_default c =
+    let l = c.loop-found in
+    (sym (ap (redeem_run (said_place l.last)) (turn_at _ _ _ c.next-stepped.ensures c.in_default.is)) ∙ l.invariant)

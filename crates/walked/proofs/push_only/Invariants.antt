@@ -8,8 +8,8 @@ use Rattle.script.specs.Run.{walk_from}
 use Rattle.walked.specs.Walked.{push_only_run}
 use Rattle.walked.proofs.push_only.Given as goal
 
-abbrev pub invariant-loop-code : goal.invariant-loop-code
-invariant-loop-code l = push_only_run (walk_from false l.s l.c.at) ≡ push_only_run (walk_from false l.s 0)
+abbrev pub invariant-loop-found : goal.invariant-loop-found
+invariant-loop-found l = push_only_run (walk_from false l.s l.c.at) ≡ push_only_run (walk_from false l.s 0)
 
-abbrev pub decreases-loop-code : goal.decreases-loop-code
-decreases-loop-code l = length l.s - l.c.at
+abbrev pub decreases-loop-found : goal.decreases-loop-found
+decreases-loop-found l = length l.s - l.c.at

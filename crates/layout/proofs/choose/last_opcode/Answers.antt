@@ -3,14 +3,13 @@
 use mathlib.Core.Path.{◌≡◌, sym, ap, ◌∙◌}
 use mathlib.Core.Bool.{false}
 use mathlib.Core.List.{List}
-use mathlib.Core.Option.{Option, none}
+use Rattle.std.specs.Prelude.{Option, None, Ok}
 use Prim.Native.Nat.{ℕ}
 use native.Mathlib.Omega.{arith}
 use Rattle.laws.specs.Said.{Said}
-use Rattle.opcodes.specs.Opcode.{said_code}
 use Rattle.script.specs.Walk.{Walked}
 use Rattle.script.specs.Run.{Run, stop, walk_from, fold}
-use Rattle.walk.proofs.Turn.{turn_at, moves_at}
+use Rattle.walk.proofs.Turn.{finds, turn_at, moves_at}
 use Rattle.building.specs.Builder.{opcode_in, unless_refused, last_if_opcode}
 use Rattle.layout.proofs.choose.last_opcode.Goals as goal
 use Rattle.layout.proofs.choose.last_opcode.Goals.{After-next-stepped}
@@ -25,46 +24,49 @@ module _ (d : After-next-stepped) where
   s = d.args.script.now
 
   abbrev now-last : Option ℕ
-  now-last = said_code d.loop-last.last
+  now-last = d.loop-last.last
 
   -- it gave the walk's next part
-  step : {run : Run} → walk_from false s d.loop-last.c.at ≡ run → last_of now-last run ≡ last_of none (walk_from false s 0)
+  step : {run : Run} → walk_from false s d.loop-last.c.at ≡ run → last_of now-last run ≡ last_of None (walk_from false s 0)
   step t = sym (ap (last_of now-last) t) ∙ d.loop-last.invariant.1
 
   ends : {a : Said Walked} → walk_from false s d.loop-last.c.at ≡ stop a → unless_refused (now-last, a) ≡ last_if_opcode s
   unfolding last_if_opcode
   ends t = ap unless_refused (step t)
 
-pub returns-in-End : goal.returns-in-End
-returns-in-End c =
-    let k = (goal.at.returns-in-End c).After-next-stepped in
-    ends k (turn_at _ _ _ c.next-stepped.ensures c.in-End.is)
+pub returns-in-Err : goal.returns-in-Err
+returns-in-Err c =
+    let k = (goal.at.returns-in-Err c).After-next-stepped in
+    ends k (turn_at _ _ _ c.next-stepped.ensures c.in-Err.is)
 
-pub loop-last-smaller-in-Opcode : goal.loop-last-smaller-in-Opcode
-loop-last-smaller-in-Opcode c = omega (
-  arith,
-  moves_at _ _ _ c.next-stepped.ensures c.in-Opcode.is,
-)
+pub returns-in-Ok-None : goal.returns-in-Ok-None
+returns-in-Ok-None c =
+    let k = (goal.at.returns-in-Ok-None c).After-next-stepped in
+    let a = c.in-Ok-None in
+    ends k (turn_at _ _ _ c.next-stepped.ensures (a.is ∙ ap Ok (rw a.is at a.field-0-is)))
 
-pub loop-last-preserved-in-Opcode : goal.loop-last-preserved-in-Opcode
-loop-last-preserved-in-Opcode c =
-    let k = (goal.at.loop-last-preserved-in-Opcode c).After-next-stepped in
-    let e = c.in-Opcode.is in
+pub loop-last-smaller-in-Ok-Some-Opcode : goal.loop-last-smaller-in-Ok-Some-Opcode
+loop-last-smaller-in-Ok-Some-Opcode c =
+    let a = c.in-Ok-Some-Opcode in
+    let q = rw a.is at a.field-0-is in
+    omega (arith, moves_at _ _ _ c.next-stepped.ensures (finds a.is q (rw (a.is, q) at a.field-0-0-is)))
+
+pub loop-last-preserved-in-Ok-Some-Opcode : goal.loop-last-preserved-in-Ok-Some-Opcode
+loop-last-preserved-in-Ok-Some-Opcode c =
+    let k = (goal.at.loop-last-preserved-in-Ok-Some-Opcode c).After-next-stepped in
+    let a = c.in-Ok-Some-Opcode in
+    let e = let q = rw a.is at a.field-0-is in finds a.is q (rw (a.is, q) at a.field-0-0-is) in
     ((moves_at _ _ _ c.next-stepped.ensures e).within, step k (turn_at _ _ _ c.next-stepped.ensures e))
 
 pub loop-last-smaller : goal.loop-last-smaller
-loop-last-smaller c = omega (
-  arith,
-  moves_at _ _ _ c.next-stepped.ensures c.in-Push.is,
-)
+loop-last-smaller c =
+    let a = c.in-Ok-Some-Push in
+    let q = rw a.is at a.field-0-is in
+    omega (arith, moves_at _ _ _ c.next-stepped.ensures (finds a.is q (rw (a.is, q) at a.field-0-0-is)))
 
 pub loop-last-preserved : goal.loop-last-preserved
 loop-last-preserved c =
     let k = (goal.at.loop-last-preserved c).After-next-stepped in
-    let e = c.in-Push.is in
+    let a = c.in-Ok-Some-Push in
+    let e = let q = rw a.is at a.field-0-is in finds a.is q (rw (a.is, q) at a.field-0-0-is) in
     ((moves_at _ _ _ c.next-stepped.ensures e).within, step k (turn_at _ _ _ c.next-stepped.ensures e))
-
-pub returns-in-Refused : goal.returns-in-Refused
-returns-in-Refused c =
-    let k = (goal.at.returns-in-Refused c).After-next-stepped in
-    ends k (turn_at _ _ _ c.next-stepped.ensures c.in-Refused.is)

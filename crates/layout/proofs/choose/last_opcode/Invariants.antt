@@ -2,11 +2,10 @@
 -- nothing. The measure is what is left of the script. Assumes nothing.
 use mathlib.Core.Path.{◌≡◌}
 use mathlib.Core.Bool.{false}
-use mathlib.Core.Option.{Option, none}
+use Rattle.std.specs.Prelude.{Option, None}
 use Prim.Native.Nat.{ℕ, ◌-◌, ◌≤◌}
 use lib.ListN.{length}
 use Rattle.laws.specs.Said.{Said}
-use Rattle.opcodes.specs.Opcode.{said_code}
 use Rattle.script.specs.Walk.{Walked}
 use Rattle.script.specs.Run.{Run, walk_from, fold}
 use Rattle.building.specs.Builder.{opcode_in}
@@ -18,7 +17,7 @@ last_of = fold (λ (last : Option ℕ) w. opcode_in w)
 
 abbrev pub invariant-loop-last : goal.invariant-loop-last
 invariant-loop-last l =
-    (l.c.at ≤ length l.script) × (last_of (said_code l.last) (walk_from false l.script l.c.at) ≡ last_of none (walk_from false l.script 0))
+    (l.c.at ≤ length l.script) × (last_of l.last (walk_from false l.script l.c.at) ≡ last_of None (walk_from false l.script 0))
 
 abbrev pub decreases-loop-last : goal.decreases-loop-last
 decreases-loop-last l = length l.script - l.c.at

@@ -8,6 +8,7 @@ use lib.Seq.{sets}
 use Rattle.opcodes.specs.Opcode.{length_bytes, said_form}
 use Rattle.script.specs.Instruction.{write_le}
 use Rattle.layout.specs.Laid.{headed}
+use Rattle.std.proofs.lemmas.Result.{err_from_is_err_and}
 use Rattle.layout.proofs.Stored.{pushed_length, not_laid, room_laid, all_laid}
 use Rattle.layout.proofs.store.lay.Goals as goal
 use Rattle.layout.proofs.store.lay.Goals.{After-length_bytes-width}
@@ -30,15 +31,17 @@ module _ (f : After-length_bytes-width) where
 pub put_push-requires : goal.put_push-requires
 put_push-requires c =
     let s = (goal.at.put_push-requires c).After-length_bytes-width in
-    omega (arith, room_laid (buffer s) (new s) c.args.used _ (sized s) c.fits-laid.ensures c.in-Count.is, sized s)
+    omega (arith, room_laid (buffer s) (new s) c.args.used _ (sized s) c.fits.ensures c.in_ok-size.was, sized s)
 
-pub returns-in-Refused : goal.returns-in-Refused
-returns-in-Refused c =
-    let s = (goal.at.returns-in-Refused c).After-length_bytes-width in
-    let p = not_laid (buffer s) (new s) c.args.used _ (sized s) c.fits-laid.ensures c.in-Refused.is in record { answer = p.0; left = p.1 }
+pub returns-in_err-size : goal.returns-in_err-size
+returns-in_err-size c =
+    let s = (goal.at.returns-in_err-size c).After-length_bytes-width in
+    let r = err_from_is_err_and c.from_residual.result c.from_residual.ensures.1 in
+    let p = not_laid (buffer s) (new s) c.args.used _ (sized s) c.fits.ensures c.in_err-size.was in
+    rw (r.1, r.2) (record { answer = p.0; left = p.1 })
 
-pub returns-in-Count : goal.returns-in-Count
-returns-in-Count c =
-    let s = (goal.at.returns-in-Count c).After-length_bytes-width in
+pub returns : goal.returns
+returns c =
+    let s = (goal.at.returns c).After-length_bytes-width in
     let a = c.args in
-    let p = all_laid (buffer s) (new s) a.used _ (sized s) c.fits-laid.ensures c.in-Count.is (c.put_push.ensures ∙ ap (λ (w : ℕ). sets (buffer s) a.used (a.code ∷ (write_le w (length (body s)) ++ body s))) c.length_bytes-width.ensures) in record { answer = p.0; left = p.1 }
+    let p = all_laid (buffer s) (new s) a.used _ (sized s) c.fits.ensures c.in_ok-size.was (c.put_push.ensures ∙ ap (λ (w : ℕ). sets (buffer s) a.used (a.code ∷ (write_le w (length (body s)) ++ body s))) c.length_bytes-width.ensures) in record { answer = p.0; left = p.1 }

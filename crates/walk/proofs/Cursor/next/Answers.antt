@@ -1,18 +1,18 @@
 -- `walk::Cursor::next` meets its contract: refusals 1 and 8, the end, then the instruction by the class of its opcode. Assumes nothing.
-use mathlib.Core.Path.{◌≡◌, refl, sym, ap, ◌∙◌}
+use mathlib.Core.Path.{◌≡◌, refl}
 use mathlib.Core.Bool.{Bool}
 use Prim.Native.Nat.{◌+◌, ◌<◌}
 use native.Mathlib.Omega.{arith}
 use lib.ListN.{get_or}
 use Rattle.laws.specs.Said.{answers}
-use Rattle.opcodes.specs.Opcode.{said_class}
 use Rattle.script.specs.Walk.{found, opcode, walk_says, next_at}
-use Rattle.script.proofs.Step.{settles, too_long, bad_cursor, at_end, opcode_says, number_code, plain_code}
+use Rattle.script.proofs.Step.{settles, too_long, bad_cursor, at_end, opcode_says}
+use Rattle.walk.proofs.Turn.{no_push}
 use Rattle.walk.proofs.Cursor.next.Goals as goal
-use Rattle.walk.proofs.Cursor.next.Goals.{After-classify-class, Start}
+use Rattle.walk.proofs.Cursor.next.Goals.{After-classify, Start}
 
 -- where the opcode is no push
-module _ (m : After-classify-class) where
+module _ (m : After-classify) where
   opcode-right : (minimal : Bool) → 78 < get_or m.args.script.now m.args.self.at 0
       → (answers (found (opcode m.args.self.at (get_or m.args.script.now m.args.self.at 0))) ≡ walk_says minimal m.args.script.now m.args.self.at)
       × (m.args.self.at + 1 ≡ next_at minimal m.args.script.now m.args.self.at)
@@ -32,12 +32,5 @@ returns-then-script-at-2 c = settles _ _ _ _ _ (at_end _ _ _ c.if-script-gt-MAX_
 
 pub returns-in-PushNum : goal.returns-in-PushNum
 returns-in-PushNum c =
-    let s = (goal.at.returns-in-PushNum c).After-classify-class in
-    rw (c.opcode_at.ensures.0, c.opcode_at.ensures.1)
-    (opcode-right s _ (number_code _ (sym c.classify-class.ensures ∙ ap said_class c.in-PushNum.is)))
-
-pub returns-in-Ordinary : goal.returns-in-Ordinary
-returns-in-Ordinary c =
-    let s = (goal.at.returns-in-Ordinary c).After-classify-class in
-    rw (c.opcode_at-in-Ordinary.ensures.0, c.opcode_at-in-Ordinary.ensures.1)
-    (opcode-right s _ (plain_code _ (sym c.classify-class.ensures ∙ ap said_class c.in-Ordinary.is)))
+    let s = (goal.at.returns-in-PushNum c).After-classify in
+    rw (c.opcode_at.ensures.0, c.opcode_at.ensures.1) (opcode-right s _ (no_push _ c.classify.ensures c.in-PushNum.is))

@@ -5,7 +5,7 @@ use Rattle.walk.proofs.push.stated_len.Goals as goal
 
 pub returns-then-k-eq0 : goal.returns-then-k-eq0
 unfolding stated
-returns-then-k-eq0 c = simp (eq-eqb _ _ c.if-k-eq0.true)
+returns-then-k-eq0 c = rw (eq-eqb _ _ c.if-k-eq0.true) c.from.ensures
 
 pub returns-else-k-eq0 : goal.returns-else-k-eq0
 unfolding stated

@@ -1,6 +1,0 @@
--- `templates::judged::is_p2pkh` meets its contract: the test's answer, within the limit. Assumes nothing.
-use Rattle.templates.proofs.Judging.{judged_by}
-use Rattle.templates.proofs.judged.is_p2pkh.Goals as goal
-
-pub returns : goal.returns
-returns c = judged_by _ _ c.judge.ensures c.p2pkh.ensures
