@@ -163,8 +163,8 @@ def buffers():
 def switches():
     """Switches on a number that says which step to run."""
     for f in files:
-        for m in re.finditer(r'^ *match kind \{', text[f], re.M):
-            if re.search(r'kind: u8', text[f][:m.start()][-700:]) or 'h.kind' in text[f][:m.start()][-200:]:
+        for m in re.finditer(r'^ *match ((?:h\.)?kind) \{', text[f], re.M):
+            if m.group(1) == 'h.kind' or re.search(r'kind: u8|= h\.kind;', text[f][:m.start()][-700:]):
                 yield at(f, m.start(), 'match kind')
 
 

@@ -144,14 +144,14 @@ impl Builder {
         }
     }
 
-    // Appends an absolute lock time as a number. Refused with 1, 13, 1, 7.
+    // Appends an absolute lock time as a number, an entry that document 01 names. Refused with 1, 13, 1, 7.
     pub fn push_lock_time(self, buffer: &mut [u8], locktime: u32) -> Built
         ensures { said_built result buffer.new ≡ calls_by self (push_int (pos locktime)) buffer.old }
     {
         self.push_int(buffer, locktime as i64)
     }
 
-    // Appends a sequence number as a number. Refused with 1, 13, 1, 7.
+    // Appends a sequence number as a number, an entry that document 01 names. Refused with 1, 13, 1, 7.
     pub fn push_sequence(self, buffer: &mut [u8], sequence: u32) -> Built
         ensures { said_built result buffer.new ≡ calls_by self (push_int (pos sequence)) buffer.old }
     {

@@ -1,6 +1,7 @@
 // Prints what the builder's calls leave at the edges of their inputs, one line for each call: the answer, the builder for the next call, and the
 // first bytes of the buffer. A buffer is filled with 0xee before the first call, so that a byte that was not written shows.
 // A group of inputs is a function of its own: the groups differ in what they ask, and a table over all of them would have rows of unlike sorts.
+// Each call names the handle, what is asked and the bytes in one line.
 #![tactic(auto)]
 
 use builder::{Builder, Built};

@@ -41,7 +41,7 @@ fn pair(values: &mut [u64], at: usize, n: u64, m: u64)
     }
 }
 
-// A refusal: its number, and its values from this entry on, as far as the slice has entries for them.
+// A refusal: its number, and its values from this entry on, as far as the slice has entries for them. Slice and entry go side by side, as C lends the one.
 pub fn refusal(why: Refusal, values: &mut [u64], at: usize) -> u32
     ensures { (result ≡ refusals.number_of why) × (values.new ≡ sets values.old at (refusals.values_of why)) }
 {
@@ -149,7 +149,7 @@ impl Row for bool {
     ghost fits = { yes_fits };
 
     fn store(self, values: &mut [u64], at: usize) {
-        put(values, at, if self { 1 } else { 0 });
+        put(values, at, u64::from(self));
     }
 }
 
@@ -214,7 +214,7 @@ impl Row for Class {
     }
 }
 
-// A kind: its number, from 1 in document 01's order.
+// A kind: its number, from 1 in document 01's order, as C has it.
 impl Row for Template {
     const LEAST: usize = 1;
 

@@ -13,7 +13,7 @@ use refusal::Refusal;
 // The least number of entries that a call takes: the state for the next call, and the one value that a builder's refusal has at most.
 pub const STATE_VALUES: usize = 3;
 
-// What is remembered where no opcode is.
+// What is remembered where no opcode is, as C has it.
 const NOTHING: u32 = 256;
 
 // A builder from two numbers.

@@ -2,6 +2,7 @@
 use crate::file::Head;
 use crate::{file, lent, on_numbers, on_opcodes, on_scripts, on_templates, on_walk};
 
+// By the entry's number in the file.
 fn dispatch<'a>(h: Head<'a>, input: &[u8], out: &mut [u8]) -> Option<&'a [u8]> {
     let want = h.bytes;
     match h.kind {

@@ -26,7 +26,7 @@ pub(crate) fn value(want: &[u8], n: u64) -> Option<&[u8]> {
     number(number(want, 0)?, n)
 }
 
-// The refusal's number, and then its values.
+// The refusal's number, and then its values, as the file has them.
 pub(crate) fn refused(want: &[u8], r: Refusal) -> Option<&[u8]> {
     let rest = number(want, u64::from(r.number()))?;
     match r.value() {

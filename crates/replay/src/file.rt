@@ -12,7 +12,7 @@ pub(crate) struct Head<'a> {
     pub(crate) next: usize,
 }
 
-// The lowest byte.
+// The lowest byte, where the file has a byte as a number.
 pub(crate) fn low(n: u64) -> u8 {
     (n % 256) as u8
 }

@@ -190,7 +190,7 @@ fn ended(data: &[u8], h: Head<'_>, s: State) -> State {
     }
 }
 
-// One record.
+// One record, by its kind's number in the file.
 fn turn(
     rt: &impl Print,
     data: &[u8],

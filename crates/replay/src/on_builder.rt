@@ -29,6 +29,7 @@ fn fresh<'a>(buffer: &[u8], want: &'a [u8]) -> Option<&'a [u8]> {
     state(Builder::new(), buffer, expect::number(want, 0)?)
 }
 
+// A number of the file that the entry takes in 32 bits.
 fn narrow(n: u64) -> u32 {
     u32::try_from(n).unwrap_or(0)
 }

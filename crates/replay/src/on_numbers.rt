@@ -15,6 +15,7 @@ fn write_scriptint<'a>(n: i64, out: &mut [u8], want: &'a [u8]) -> Option<&'a [u8
     expect::written(want, answer, out)
 }
 
+// The input, the lent buffer and the wanted bytes, named at each call.
 pub(crate) fn answer<'a>(
     kind: u8,
     arg: u64,

@@ -62,6 +62,7 @@ fn kind_number(kind: Template) -> u64 {
     }
 }
 
+// The input, the lent buffer and the wanted bytes, named at each call.
 pub(crate) fn answer<'a>(
     kind: u8,
     input: &[u8],

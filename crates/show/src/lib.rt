@@ -91,6 +91,7 @@ impl Show for i64 {
     }
 }
 
+// The words of the inspector's screen, which `head` keeps to itself.
 impl Show for Template {
     fn show(self, rt: &impl Print) -> io::Result<()> {
         let name = match self {

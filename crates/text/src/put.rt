@@ -29,7 +29,7 @@ fn hex_digit(half: u8) -> u8
     }
 }
 
-// Stores bytes in hex from n on; the place behind them.
+// Stores bytes in hex from n on; the place behind them. The place goes on by two: over pairs of the buffer the loop is no plainer.
 #[tactic(auto, using(asm::proofs::Sizes::hex_length), unfolding(asm::specs::Asm::hex))]
 fn put_hex(out: &mut [u8], n: usize, bytes: &[u8]) -> usize
     requires { n + length (hex bytes.now) ≤ length out.old }

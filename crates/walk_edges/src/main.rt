@@ -1,5 +1,6 @@
 // Prints what the walk answers at the edges of its inputs, one line for each call.
 // A group of inputs is a function of its own: the groups differ in what they ask, and a table over all of them would have rows of unlike sorts.
+// Each call names the handle, what is asked and the bytes in one line.
 #![tactic(auto)]
 
 use std::io;
