@@ -27,7 +27,7 @@ fn inspect_in(rt: &impl Print, script: &[u8], room: usize) -> io::Result<()> {
     Ok(())
 }
 
-// The screen with just enough room, with one byte too little, and with three bytes more.
+// The screen with just enough room, with one byte too little, and with three bytes more, in a buffer of this program's size.
 fn rooms(rt: &impl Print, script: &[u8], needed: usize) -> io::Result<()> {
     inspect_in(rt, script, needed)?;
     if 0 < needed {

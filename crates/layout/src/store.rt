@@ -35,7 +35,7 @@ fn fits(used: usize, head: usize, body: usize, room: usize) -> Result<usize, Ref
     Ok(size)
 }
 
-// Writes the lowest bytes of n over the whole of out, the lowest first.
+// Writes the lowest bytes of n over the whole of out, the lowest first. `numbers` has the loop for 64 bits and a sign: two lines each, under laws of their own.
 #[tactic(auto, unfolding(script::specs::Instruction::write_le))]
 fn put_le(out: &mut [u8], n: usize)
     ensures { out.new ≡ write_le (length out.old) n }

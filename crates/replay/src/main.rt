@@ -252,7 +252,7 @@ fn with_input(rt: &impl Print, data: &[u8]) -> io::Result<()> {
     with_buffers(rt, data, &mut input)
 }
 
-// Reads to the input's end, to a read that fails, or until the buffer is full; how many bytes there are then.
+// Reads to the input's end, to a read that fails, or until the buffer is full; how many bytes there are then. `shown` reads so too, and fails where a read does.
 fn read_full<R: Read>(from: &mut R, buf: &mut [u8]) -> usize
     ensures { result ≤ length buf.new }
 {

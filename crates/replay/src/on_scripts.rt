@@ -26,6 +26,7 @@ pub(crate) fn counted<'a>(kind: u8, rate: u64, input: &[u8], want: &'a [u8]) -> 
     }
 }
 
+// The input, the lent buffer and the wanted bytes, named at each call.
 pub(crate) fn written<'a>(
     kind: u8,
     version: u8,

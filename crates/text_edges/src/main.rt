@@ -25,7 +25,7 @@ fn write_line(rt: &impl Print, script: &[u8], room: usize) -> io::Result<()> {
     Ok(())
 }
 
-// The text with just enough room, with one byte too little, and with three bytes more.
+// The text with just enough room, with one byte too little, and with three bytes more, in a buffer of this program's size.
 fn write_lines(rt: &impl Print, script: &[u8], needed: usize) -> io::Result<()> {
     write_line(rt, script, needed)?;
     if 0 < needed {
