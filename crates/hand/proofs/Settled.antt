@@ -6,6 +6,7 @@ use Rattle.hand.proofs.Handing.{same_handed}
 use Rattle.hand.proofs.refusal.Reads as refusal
 use Rattle.hand.proofs.over.Reads as over
 use Rattle.hand.proofs.number.Reads as number
+use Rattle.hand.proofs.Row.store.Reads as store
 use Rattle.hand.proofs.part.Reads as part
 use Rattle.hand.proofs.two.Reads as two
 
@@ -26,3 +27,9 @@ part_settled κs a r t s u p q = same_handed p q
 
 pub two_settled : (κs : _) (a : _) (r t : ℕ) (s u : _) → two.Post κs a r s → two.Post κs a t u → (r ≡ t) × (s.1.1.0.now ≡ u.1.1.0.now)
 two_settled κs a r t s u p q = same_handed p q
+
+-- a row stored, of every type of row
+pub store_settled : (T : _) (row : _) (row_dict : _) (copy : _) (copy_dict : _) (clone : _) (clone_dict : _) (κs : _) (a : _) (r t : _) (s u : _)
+    → store.Post T row row_dict copy copy_dict clone clone_dict κs a r s → store.Post T row row_dict copy copy_dict clone clone_dict κs a t u
+    → s.1.0.now ≡ u.1.0.now
+store_settled T row row_dict copy copy_dict clone clone_dict κs a r t s u p q = same_value p q

@@ -6,13 +6,10 @@ ghost use Rattle.std.proofs.Common.{rules};
 ghost use Rattle.std.proofs.lemmas.List.Edits.{sets};
 ghost use Rattle.refusal.specs.Refusal as refusals;
 ghost use Rattle.refusal.specs.Answer.{said, said_by};
-ghost use Rattle.opcodes.specs.Opcode.{said_class};
-ghost use Rattle.templates.specs.Answer.{said_template};
 ghost use Rattle.templates.specs.Says.{start_of, len_of};
-ghost use Rattle.walked.specs.Walked.{stretch};
 ghost use Rattle.walked.specs.Answer.{said_place};
-ghost use Rattle.hand.specs.Handed.{handed, into, says, gives, reads, one, yes, maybe, two_of, sort_row, kind_row};
-ghost use Rattle.hand.specs.Row.{one_fits, yes_fits, two_fits, maybe_fits, sort_fits, kinds_fit};
+ghost use Rattle.hand.specs.Handed.{handed, into, says, gives, reads, one, yes, maybe};
+ghost use Rattle.hand.specs.Row.{one_fits, yes_fits, maybe_fits, place_row, place_fits, class_row, class_fits, template_row, template_fits};
 
 use opcodes::Class;
 use refusal::{Refusal, Value};
@@ -159,9 +156,9 @@ impl Row for Place {
 
     ghost LEAST = { 2 };
 
-    ghost row_of = { λ p. two_of (stretch p.start p.len) };
+    ghost row_of = { place_row };
 
-    ghost fits = { λ p. two_fits (stretch p.start p.len) };
+    ghost fits = { place_fits };
 
     fn store(self, values: &mut [u64], at: usize) {
         pair(values, at, self.start as u64, self.len as u64);
@@ -201,9 +198,9 @@ impl Row for Class {
 
     ghost LEAST = { 2 };
 
-    ghost row_of = { λ c. sort_row (said_class c) };
+    ghost row_of = { class_row };
 
-    ghost fits = { λ c. sort_fits (said_class c) };
+    ghost fits = { class_fits };
 
     fn store(self, values: &mut [u64], at: usize) {
         match self {
@@ -220,9 +217,9 @@ impl Row for Template {
 
     ghost LEAST = { 1 };
 
-    ghost row_of = { λ t. kind_row (said_template t) };
+    ghost row_of = { template_row };
 
-    ghost fits = { λ t. kinds_fit (said_template t) };
+    ghost fits = { template_fits };
 
     fn store(self, values: &mut [u64], at: usize) {
         let number = match self {

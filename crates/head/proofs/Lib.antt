@@ -1,3 +1,4 @@
 pub mod Decimal
 pub mod Short
+pub mod Zeros
 pub mod Settled

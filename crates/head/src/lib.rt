@@ -1,7 +1,7 @@
 // The screen up to the text, made line by line.
 #![tactic(auto, using(crate::proofs::Short::lengths))]
 
-ghost use Rattle.std.specs.Prelude.{◌≡◌, List, [], ◌∷◌, ◌++◌, ℕ, ◌+◌, ◌≤◌, length, take};
+ghost use Rattle.std.specs.Prelude.{◌≡◌, [], ◌∷◌, ◌++◌, ◌+◌, ◌≤◌, length};
 ghost use Rattle.pool.specs.Text.{text, decimal};
 ghost use Rattle.templates.specs.Answer.{said_template};
 ghost use Rattle.screen.specs.Screen.{kind_name, line};
@@ -10,19 +10,30 @@ use itoa::Buffer;
 use std::marker::Model;
 use templates::Template;
 
-// The screen up to the text, as far as it is made: the first len bytes of an array, in fixed memory, since nothing here has a heap. What stands behind them is not said, and nobody reads it.
-#[derive(Drop)]
+// The screen up to the text, as far as it is made: the first len bytes of an array, in fixed memory, since nothing here has a heap. Behind them the array stays zero, so that the
+// bytes shown give it back.
+#[derive(Clone, Copy)]
 pub struct Head {
     bytes: [u8; 160],
     len: usize,
 }
 
 impl Model for Head {
+    ghost use Rattle.std.specs.Prelude.{◌≡◌, List, ℕ, ◌-◌, ◌≤◌, length, drop, replicate};
+    ghost use Rattle.head.specs.Shown.{shown_in, filled, shown_length, given_back};
+
     ghost Value = { List ℕ };
 
-    ghost view = { λ h. take h.len h.bytes };
+    ghost view = { λ h. shown_in h.bytes h.len };
 
-    ghost invariant = { λ h. (length h.bytes ≡ 160) × (h.len ≤ 160) };
+    ghost invariant = { λ h. (length h.bytes ≡ 160) × (h.len ≤ 160) × (drop h.len h.bytes ≡ replicate (160 - h.len) 0) };
+
+    ghost inverse = { λ shown. record { bytes = filled shown; len = length shown } };
+
+    ghost inverse_ok = { λ h holds i. record {
+      bytes = given_back h.bytes h.len holds.0 holds.1 holds.2 i;
+      len = shown_length h.bytes h.len holds.0 holds.1 i;
+    } };
 }
 
 // What a kind is called.

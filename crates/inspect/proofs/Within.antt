@@ -1,10 +1,9 @@
--- Within the inspector's limit nothing that the screen shows is refused. Assumes nothing.
+-- Within the limit nothing that the screen shows is refused. Assumes nothing.
 use mathlib.Core.Path.{◌≡◌}
 use mathlib.Core.Bool.{Bool, true, false}
 use mathlib.Core.List.{List}
 use mathlib.Core.Logic.{⊎_elim}
 use Prim.Native.Nat.{ℕ, ◌≤◌, ◌<◌}
-use native.Mathlib.Omega.{arith}
 use borrow.Author.Tests.{lt-ltb, le-ltb, le-leb}
 use lib.Dec.{ltb}
 use lib.ListN.{length}
@@ -18,31 +17,28 @@ use Rattle.dust.specs.Dust.{dust_of, dust_says}
 use Rattle.asm.specs.Asm.{text_of, asm_len_says, asm_says}
 use Rattle.screen.specs.Screen.{most_shown}
 
-module _ (s : List ℕ) (h : length s ≤ most_shown) where
-  within : length s ≤ limit
-  within = omega (arith, h)
-
+module _ (s : List ℕ) (h : length s ≤ limit) where
   pub kinded : judges kind_of s ≡ answers (kind_of s)
   unfolding judges
-  kinded = rw (le-ltb limit (length s) within)
+  kinded = rw (le-ltb limit (length s) h)
 
   pub dusted : dust_says s ≡ answers (dust_of s)
   unfolding dust_says
-  dusted = rw (le-ltb limit (length s) within)
+  dusted = rw (le-ltb limit (length s) h)
 
   pub counted : (accurate : Bool) → count_says accurate s ≡ answers (get_sig_op_count accurate s)
   unfolding count_says
-  counted accurate = rw (le-ltb limit (length s) within)
+  counted accurate = rw (le-ltb limit (length s) h)
 
   pub measured : asm_len_says s ≡ answers (length (text_of s))
   unfolding asm_len_says
-  measured = rw (le-ltb limit (length s) within)
+  measured = rw (le-ltb limit (length s) h)
 
   pub texted : (room : ℕ) → length (text_of s) ≤ room → asm_says s room ≡ answers (length (text_of s))
   unfolding asm_says
-  texted room r = rw (le-ltb limit (length s) within, le-leb (length (text_of s)) room r)
+  texted room r = rw (le-ltb limit (length s) h, le-leb (length (text_of s)) room r)
 
--- .. and a script that is not within it is over it
+-- a script that is not within the inspector's limit is over it
 pub over_limit : (s : List ℕ) → (length s ≤ most_shown → ◌≡◌ {A = Bool} false true) → ltb most_shown (length s) ≡ true
 over_limit s absent =
     ⊎_elim

@@ -18,9 +18,9 @@ abbrev pub Row : Type 0
 Row = String × List ℕ
 
 -- a refusal by its number and its values, else the answer's row
-abbrev pub said : {A : Type 0} → (A → Row) → Said A → Row
-said row (answers a) = row a
-said row (refuses number values) = ("refusal", number ∷ values)
+abbrev pub said_row : {A : Type 0} → (A → Row) → Said A → Row
+said_row row (answers a) = row a
+said_row row (refuses number values) = ("refusal", number ∷ values)
 
 -- 'The walk': a push with place, length bytes of its form, body place and body length
 abbrev pub step_row : Walked → Row
@@ -45,21 +45,21 @@ bytes_row s = ("bytes", s)
 
 -- the call after n others, each given the cursor that the one before gave back
 abbrev pub plain : List ℕ → ℕ → Row
-plain s n = said step_row (call false s n)
+plain s n = said_row step_row (call false s n)
 
 abbrev pub minimal : List ℕ → ℕ → Row
-minimal s n = said step_row (call true s n)
+minimal s n = said_row step_row (call true s n)
 
 -- the size of what the first call gives in a mode
 abbrev pub size_at : Bool → List ℕ → Row
-size_at mode s = said size_row (call mode s 0)
+size_at mode s = said_row size_row (call mode s 0)
 
 -- by the name that the inspector shows
 abbrev pub kind : List ℕ → Row
 kind s = (kind_name (kind_of s), [])
 
 abbrev pub dust : List ℕ → Row
-dust s = said amount_row (dust_says s)
+dust s = said_row amount_row (dust_says s)
 
 abbrev pub asm : List ℕ → Row
 asm s = bytes_row (text_of s)
@@ -73,20 +73,20 @@ serialized n = bytes_row (serialize n)
 
 -- read_scriptint, and read_scriptint_non_minimal
 abbrev pub strict : List ℕ → Row
-strict s = said number_row (script_num n_default_max_num_size true s)
+strict s = said_row number_row (script_num n_default_max_num_size true s)
 
 abbrev pub loose : List ℕ → Row
-loose s = said number_row (script_num n_default_max_num_size false s)
+loose s = said_row number_row (script_num n_default_max_num_size false s)
 
 abbrev pub accurate : List ℕ → Row
-accurate s = said amount_row (count_says true s)
+accurate s = said_row amount_row (count_says true s)
 
 abbrev pub legacy : List ℕ → Row
-legacy s = said amount_row (count_says false s)
+legacy s = said_row amount_row (count_says false s)
 
 -- the bytes that are used after a builder's call
 abbrev pub built : Outcome → Row
-built o = said (λ done. bytes_row (take o.used o.buffer)) o.said
+built o = said_row (λ done. bytes_row (take o.used o.buffer)) o.said
 
 -- a call after another, with more room behind the buffer
 abbrev pub then : Outcome → Call → List ℕ → Outcome
